@@ -1,0 +1,10 @@
+pub mod Pieces
+pub mod SpansLemmas
+pub mod Operands
+pub mod Bounds
+pub mod Standing
+pub mod OptionsSound
+pub mod Sound
+pub mod Worked
+pub mod Steps
+pub mod Complete

@@ -1,0 +1,23 @@
+-- The worked texts, by computation.
+use Rattle.std.proofs.Common.{refl}
+use Rattle.query_reader.specs.Examples.{WorkedFaults, WorkedQueries}
+
+pub worked_faults : WorkedFaults
+worked_faults = record {
+  no_name = refl;
+  no_node = refl;
+  no_end = refl;
+  nothing = refl;
+  more = refl;
+  no_operator = refl;
+  empty_list = refl;
+  no_operand = refl;
+  one_operand = refl;
+  misplaced_option = refl;
+  too_deep = refl;
+  too_many_nodes = refl;
+  limit_out_of_range = refl;
+}
+
+pub worked_queries : WorkedQueries
+worked_queries = record { bare_term = refl; a_list = refl; a_marked_term = refl; a_join = refl }

@@ -1,0 +1,10 @@
+pub mod Atoms
+pub mod Tokens
+pub mod Spans
+pub mod Refusals
+pub mod Operators
+pub mod Values
+pub mod Reading
+pub mod Seen
+pub mod Grammar
+pub mod Examples

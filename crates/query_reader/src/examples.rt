@@ -1,0 +1,14 @@
+//! Worked texts with their queries and faults, each the contract of a function that does nothing.
+ghost use Rattle.query_reader.specs.Examples.{WorkedFaults, WorkedQueries};
+
+/// First faults, from `(and friend:1 Rome)` on.
+#[tactic(auto, using(crate::proofs::Worked::worked_faults))]
+pub fn worked_faults()
+    ensures { WorkedFaults }
+{}
+
+/// Queries with their columns, from `friend:1` on.
+#[tactic(auto, using(crate::proofs::Worked::worked_queries))]
+pub fn worked_queries()
+    ensures { WorkedQueries }
+{}

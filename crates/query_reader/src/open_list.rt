@@ -1,0 +1,40 @@
+use crate::value::OptionName;
+use query_tree::{JoinKind, ListKind, Mark, Operand, Query, TermNode};
+use uni_base::Word;
+
+/// Which of a list's options were read: a value is due after a name.
+#[derive(Clone, Copy, Debug, PartialEq, Eq)]
+pub enum Tail {
+    NoOption,
+    ValueDue(OptionName),
+    OptionRead,
+}
+
+/// A join's type, with its column.
+#[derive(Clone, Copy, Debug, PartialEq, Eq)]
+pub struct Prefix {
+    pub column: u32,
+    pub name: Word,
+}
+
+/// What an open list has so far, and what it waits for.
+#[derive(Drop)]
+pub enum Part {
+    OperatorDue,
+    TermDue,
+    TermRead(TermNode),
+    Operands(ListKind, Vec<Operand>),
+    PrefixDue(JoinKind),
+    NodeDue(JoinKind, Prefix),
+    NodeRead(JoinKind, Prefix, Query),
+}
+
+/// A list whose parenthesis is open.
+#[derive(Drop)]
+pub struct OpenList {
+    pub column: u32,
+    pub part: Part,
+    pub mark: Mark,
+    pub limit: Option<u32>,
+    pub tail: Tail,
+}

@@ -1,0 +1,83 @@
+ghost use Rattle.std.specs.Prelude.{◌≡◌, ◌-◌, ◌<◌, ◌≤◌, ◌^◌, length, IfOk, MatchResult};
+ghost use Rattle.uni_base.specs.StandardLimits.{IsWithinStandard};
+ghost use Rattle.query_tree.specs.Size.{node_count};
+ghost use Rattle.query_tree.specs.Tree.{Tree, tree_of};
+ghost use Rattle.query_reader.specs.Grammar.{IsLimitRefusal, QuerySpells};
+ghost use Rattle.query_reader.specs.Reading.{ended, lexeme_of, text_read};
+ghost use Rattle.query_reader.specs.Seen.{IsAnswer, token_of, whole_of};
+
+use crate::fault::UNCLOSED;
+use crate::lexer::tokens;
+use crate::reader::{Lexeme, State};
+use crate::step::step;
+use crate::token::Token;
+use query_tree::{Query, QueryRefusal};
+use std::alloc::Global;
+use uni_base::Limits;
+
+/// Reads a query from its text.
+pub fn read_query(alloc: Global, limits: &Limits, text: &[u8]) -> Result<Query, QueryRefusal>
+    requires limits { IsWithinStandard limits.now }
+    requires short { length text.now < 2 ^ 32 - 1 }
+    ensures exact { IsAnswer (text_read limits.now text.now) result }
+    ensures spelled { IfOk result (λ query. QuerySpells limits.now text.now (tree_of query)) }
+
+    // A text that spells a query is refused only for memory, for its parentheses, or exactly where it
+    // has more nodes than are allowed.
+    ensures spells { (tree : Tree) → QuerySpells limits.now text.now tree
+        → MatchResult result (λ query. (tree_of query ≡ tree) × (node_count tree ≤ limits.now.nodes))
+        (IsLimitRefusal limits.now tree) }
+{
+    read(alloc, limits, text)
+}
+
+/// Reads a query token by token.
+fn read(alloc: Global, limits: &Limits, text: &[u8]) -> Result<Query, QueryRefusal>
+    requires limits { IsWithinStandard limits.now }
+    requires short { length text.now < 2 ^ 32 - 1 }
+    ensures { IsAnswer (text_read limits.now text.now) result }
+{
+    let tokens = tokens(alloc, text)?;
+    let mut state = State {
+        lists: Vec::new(alloc),
+        whole: None,
+        nodes: 0,
+    };
+    for token in tokens.as_slice() {
+        let lexeme = lexeme(text, *token);
+        state = step(limits, state, &lexeme)?;
+    }
+    whole(state, text.len() as u32 + 1)
+}
+
+/// A token with its column and its bytes.
+fn lexeme(text: &[u8], token: Token) -> Lexeme<'_>
+    requires ordered { token.from ≤ token.to }
+    requires inside { token.to ≤ length text.now }
+    requires short { length text.now < 2 ^ 32 - 1 }
+    ensures { token_of result ≡ lexeme_of text.now token }
+{
+    Lexeme {
+        column: token.from + 1,
+        kind: token.kind,
+        bytes: &text[token.from as usize..token.to as usize],
+    }
+}
+
+/// The query that was read, or the fault at the text's end.
+fn whole(state: State, end: u32) -> Result<Query, QueryRefusal>
+    ensures { IsAnswer (ended end (whole_of state.whole)) result }
+{
+    let State {
+        lists: _,
+        whole,
+        nodes: _,
+    } = state;
+    match whole {
+        Some(query) => Ok(query),
+        None => Err(QueryRefusal::Fault {
+            code: UNCLOSED,
+            column: end,
+        }),
+    }
+}

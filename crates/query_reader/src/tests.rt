@@ -1,0 +1,290 @@
+ghost use Rattle.uni_base.specs.StandardLimits.{IsWithinStandard};
+
+use crate::{TokenKind, read_query, tokens};
+use query_tree::{QueryRefusal, print_query};
+use std::alloc::{AllocError, Global};
+use std::process::Abort;
+use std::test::Fail;
+use uni_base::Limits;
+
+/// Texts with the code and the column of their first fault.
+static FAULTS: [(&str, u32, u32); 52] = [
+    ("(and friend:1 Rome)", 31, 15),
+    ("(and friend:1 rome)", 31, 15),
+    ("(and friend:1", 32, 14),
+    ("", 32, 1),
+    ("friend:1 friend:2", 33, 10),
+    ("(frend 1)", 34, 2),
+    ("()", 34, 2),
+    ("(and)", 35, 5),
+    ("(difference friend:1)", 35, 21),
+    ("(and (term friend:1 :optional-hits 1) lives:rome)", 36, 21),
+    ("(apply tagged: friend:1 :limit 0)", 36, 32),
+    ("   ", 32, 4),
+    ("\u{e9}", 31, 1),
+    (")", 31, 1),
+    (":limit", 31, 1),
+    ("a:1)", 33, 4),
+    ("(", 32, 2),
+    ("((", 34, 2),
+    ("(foo", 34, 2),
+    ("(term)", 35, 6),
+    ("(term", 32, 6),
+    ("(term a)", 31, 7),
+    ("(term a:1", 32, 10),
+    ("(term a:1 b:2)", 35, 11),
+    ("(term a:1 7)", 31, 11),
+    ("(difference a:1 b:1 c:1)", 35, 21),
+    ("(difference a:1 b:1 (or c:1))", 35, 21),
+    ("(or a:1 5)", 31, 9),
+    ("(and a:1 :limit 3)", 36, 10),
+    ("(and a:1 :optional-hits 1)", 36, 10),
+    ("(weak-and :optional-hits 1 a:1)", 35, 11),
+    ("(apply)", 35, 7),
+    ("(apply :limit 5 a: b:1)", 35, 8),
+    ("(apply 5 b:1)", 31, 8),
+    ("(apply a:)", 35, 10),
+    ("(apply a: 5)", 31, 11),
+    ("(apply a: b:1 c:1)", 35, 15),
+    ("(apply a: b:1 c)", 31, 15),
+    ("(apply a: b:1 :limit", 32, 21),
+    ("(apply a: b:1 :limit)", 36, 21),
+    ("(apply a: b:1 :limit 5001)", 36, 22),
+    ("(apply a: b:1 :limit 01)", 31, 22),
+    ("(apply a: b:1 :limit 5 :limit 5)", 36, 24),
+    ("(apply a: b:1 :limit 5 c:1)", 36, 24),
+    ("(apply a: b:1 :optional-hits 5)", 36, 15),
+    ("(apply a: b:1 :unknown 5)", 36, 15),
+    ("(weak-and (term a:1 :optional-hits 1000001) b:1)", 36, 36),
+    ("(weak-and (term a:1 :optional-weight 1/2) b:1)", 36, 21),
+    ("(strong-or (term a:1 :optional-weight 0/1) b:1)", 36, 39),
+    ("(strong-or (term a:1 :optional-weight 2/1) b:1)", 36, 39),
+    ("(strong-or (term a:1 :optional-weight 1/1001) b:1)", 36, 39),
+    (
+        "(strong-or (term a:1 :optional-weight 1/2 :optional-weight 1/2) b:1)",
+        36,
+        43,
+    ),
+];
+
+/// Texts with the prints of their queries.
+static QUERIES: [(&str, &str); 20] = [
+    ("friend:1", "friend:1"),
+    ("  friend:1  ", "friend:1"),
+    ("(term friend:1)", "friend:1"),
+    ("( and friend:1  lives:rome )", "(and friend:1 lives:rome)"),
+    (
+        "(difference(term friend:1)lives:rome)",
+        "(difference friend:1 lives:rome)",
+    ),
+    ("(or friend:1 lives:rome)", "(or friend:1 lives:rome)"),
+    (
+        "(weak-and (term friend:1 :optional-hits 1) lives:rome)",
+        "(weak-and (term friend:1 :optional-hits 1) lives:rome)",
+    ),
+    (
+        "(weak-and (term a:1 :optional-hits 1000000) (or b:1 :optional-hits 0))",
+        "(weak-and (term a:1 :optional-hits 1000000) (or b:1 :optional-hits 0))",
+    ),
+    (
+        "(strong-or friend:1 (term lives:rome :optional-weight 1/2))",
+        "(strong-or friend:1 (term lives:rome :optional-weight 1/2))",
+    ),
+    (
+        "(strong-or (term a:1 :optional-weight 1000/1000))",
+        "(strong-or (term a:1 :optional-weight 1000/1000))",
+    ),
+    ("(apply tagged: friend:1)", "(apply tagged: friend:1)"),
+    (
+        "(apply tagged: friend:1 :limit 1)",
+        "(apply tagged: friend:1 :limit 1)",
+    ),
+    (
+        "(apply tagged: friend:1 :limit 1000)",
+        "(apply tagged: friend:1)",
+    ),
+    (
+        "(apply tagged: friend:1 :limit 5000)",
+        "(apply tagged: friend:1 :limit 5000)",
+    ),
+    (
+        "(extract shows: (apply tagged: friend:1))",
+        "(extract shows: (apply tagged: friend:1))",
+    ),
+    (
+        "(weak-and (apply a: b:1 :optional-hits 3 :limit 5) c:1)",
+        "(weak-and (apply a: b:1 :limit 5 :optional-hits 3) c:1)",
+    ),
+    (
+        "(strong-or (extract a: b:1 :limit 5 :optional-weight 1/3))",
+        "(strong-or (extract a: b:1 :limit 5 :optional-weight 1/3))",
+    ),
+    (
+        "(and (weak-and (term friend:1 :optional-hits 1) lives:rome) (or lives:oslo))",
+        "(and (weak-and (term friend:1 :optional-hits 1) lives:rome) (or lives:oslo))",
+    ),
+    ("(or term:and or:1)", "(or term:and or:1)"),
+    ("(apply x: (term a:-_9))", "(apply x: a:-_9)"),
+];
+
+/// The fault of a text, or none.
+fn fault(
+    rt: &impl Abort,
+    alloc: Global,
+    limits: &Limits,
+    text: &[u8],
+) -> Result<Option<(u32, u32)>, Fail>
+    requires { IsWithinStandard limits.now }
+{
+    assert!(rt; text.len() < 1_000_000);
+    match read_query(alloc, limits, text) {
+        Ok(_) => Ok(None),
+        Err(QueryRefusal::Fault { code, column }) => Ok(Some((code, column))),
+        Err(QueryRefusal::Memory) => Err("memory")?,
+    }
+}
+
+/// The front, then a part so many times, then the back.
+fn repeated(
+    alloc: Global,
+    front: &str,
+    part: &str,
+    times: usize,
+    back: &str,
+) -> Result<String, AllocError> {
+    let mut text = String::from_str(alloc, front)?;
+    for _ in 0..times {
+        text.push_str(part)?;
+    }
+    text.push_str(back)?;
+    Ok(text)
+}
+
+#[test]
+fn faults(rt: HostRuntime) -> Result<(), Fail> {
+    let limits = Limits::standard();
+    for (text, code, column) in &FAULTS {
+        let found = fault(&rt, rt.alloc(), &limits, text.as_bytes())?;
+        assert_eq!(rt; found, Some((*code, *column)), "{text}");
+    }
+    Ok(())
+}
+
+#[test]
+fn queries(rt: HostRuntime) -> Result<(), Fail> {
+    let limits = Limits::standard();
+    for (text, print) in &QUERIES {
+        assert!(rt; text.len() < 1_000_000);
+        match read_query(rt.alloc(), &limits, text.as_bytes()) {
+            Ok(query) => {
+                let printed = print_query(rt.alloc(), &query)?;
+                assert!(rt; printed.as_slice() == print.as_bytes(), "{text}");
+            }
+            Err(refusal) => assert!(rt; false, "{text}: {refusal}"),
+        }
+    }
+    Ok(())
+}
+
+#[test]
+fn limits_of_a_query(rt: HostRuntime) -> Result<(), Fail> {
+    let alloc = rt.alloc();
+    let limits = Limits::standard();
+    let few = Limits { nodes: 3, ..limits };
+    assert_eq!(rt;
+        fault(&rt, alloc, &few, b"(or friend:1 friend:2 friend:3)")?,
+        Some((38, 23))
+    );
+    assert_eq!(rt; fault(&rt, alloc, &few, b"(or friend:1 friend:2)")?, None);
+    let deepest = repeated(
+        alloc,
+        "",
+        "(or ",
+        32,
+        "friend:1))))))))))))))))))))))))))))))))",
+    )?;
+    assert_eq!(rt; fault(&rt, alloc, &limits, deepest.as_bytes())?, None);
+    let deeper = repeated(
+        alloc,
+        "",
+        "(or ",
+        33,
+        "friend:1)))))))))))))))))))))))))))))))))",
+    )?;
+    assert_eq!(rt;
+        fault(&rt, alloc, &limits, deeper.as_bytes())?,
+        Some((37, 129))
+    );
+    let most = repeated(alloc, "(or", " a:1", 64, ")")?;
+    assert_eq!(rt; fault(&rt, alloc, &limits, most.as_bytes())?, None);
+    let more = repeated(alloc, "(or", " a:1", 65, ")")?;
+    assert_eq!(rt;
+        fault(&rt, alloc, &limits, more.as_bytes())?,
+        Some((35, 261))
+    );
+    Ok(())
+}
+
+#[test]
+fn nodes_of_a_query(rt: HostRuntime) -> Result<(), Fail> {
+    let alloc = rt.alloc();
+    let limits = Limits::standard();
+    let list = repeated(alloc, " (or", " a:1", 63, ")")?;
+    let most = repeated(alloc, "(or", list.as_str(), 3, " (or a:1 a:1)")?;
+    let most = repeated(alloc, most.as_str(), " a:1", 60, ")")?;
+    assert_eq!(rt; fault(&rt, alloc, &limits, most.as_bytes())?, None);
+    let more = repeated(alloc, "(or", list.as_str(), 3, " (or a:1 a:1 a:1)")?;
+    let more = repeated(alloc, more.as_str(), " a:1", 60, ")")?;
+    assert_eq!(rt;
+        fault(&rt, alloc, &limits, more.as_bytes())?,
+        Some((38, 1029))
+    );
+    let more = repeated(alloc, "(or", list.as_str(), 4, ")")?;
+    assert_eq!(rt;
+        fault(&rt, alloc, &limits, more.as_bytes())?,
+        Some((38, 1028))
+    );
+    Ok(())
+}
+
+#[test]
+fn hostile_texts(rt: HostRuntime) -> Result<(), Fail> {
+    let alloc = rt.alloc();
+    let limits = Limits::standard();
+    let parentheses = repeated(alloc, "", "(", 60_000, "")?;
+    assert_eq!(rt;
+        fault(&rt, alloc, &limits, parentheses.as_bytes())?,
+        Some((34, 2))
+    );
+    let lists = repeated(alloc, "", "(or ", 10_000, "")?;
+    assert_eq!(rt;
+        fault(&rt, alloc, &limits, lists.as_bytes())?,
+        Some((37, 129))
+    );
+    let words = repeated(alloc, "", "a", 60_000, "")?;
+    assert_eq!(rt;
+        fault(&rt, alloc, &limits, words.as_bytes())?,
+        Some((31, 1))
+    );
+    Ok(())
+}
+
+#[test]
+fn tokens_of_a_text(rt: HostRuntime) -> Result<(), Fail> {
+    let list = tokens(rt.alloc(), b" (and a: :b 10 1/2)c:d")?;
+    let kinds = [
+        (1, 2, TokenKind::Left),
+        (2, 5, TokenKind::Name),
+        (6, 8, TokenKind::Prefix),
+        (9, 11, TokenKind::Option),
+        (12, 14, TokenKind::Number),
+        (15, 18, TokenKind::Fraction),
+        (18, 19, TokenKind::Right),
+        (19, 22, TokenKind::Term),
+    ];
+    assert_eq!(rt; list.len(), 8);
+    for (token, (from, to, kind)) in list.as_slice().iter().zip(kinds.iter()) {
+        assert!(rt; token.from == *from && token.to == *to && token.kind == *kind);
+    }
+    Ok(())
+}

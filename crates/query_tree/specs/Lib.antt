@@ -1,0 +1,5 @@
+pub mod Tree
+pub mod Size
+pub mod Text
+pub mod Within
+pub mod Examples

@@ -1,0 +1,6 @@
+mod Kept
+mod Prefixes
+mod Stages
+mod Sums
+pub mod Steps
+pub mod Tokens

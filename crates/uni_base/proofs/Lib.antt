@@ -1,0 +1,3 @@
+mod Cut
+mod Digits
+mod Pieces

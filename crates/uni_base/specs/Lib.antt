@@ -1,0 +1,9 @@
+pub mod EdgeOrder
+pub mod Fields
+pub mod RankOrder
+pub mod Words
+pub mod MemoryStreams
+pub mod Numbers
+pub mod Padding
+pub mod StandardLimits
+pub mod Streams

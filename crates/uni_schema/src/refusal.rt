@@ -1,0 +1,33 @@
+use std::alloc::AllocError;
+
+/// Why a header is refused, with the line that shows it.
+#[derive(Clone, Copy, Debug, PartialEq, Eq)]
+pub enum SchemaRefusal {
+    /// The line is not of the one form that its place has so far.
+    NotYet(u64),
+    /// The input ends before `begin`; the line is the number of lines plus 1.
+    NoBegin(u64),
+    /// Memory was wanting.
+    Memory,
+}
+
+impl SchemaRefusal {
+    /// The code that is printed for the refusal, where it has one.
+    pub fn code(self) -> Option<u32> {
+        match self {
+            SchemaRefusal::NoBegin(_) => Some(8),
+            SchemaRefusal::NotYet(_) | SchemaRefusal::Memory => None,
+        }
+    }
+}
+
+impl From<AllocError> for SchemaRefusal {
+    ghost use Rattle.std.specs.Prelude.{◌≡◌};
+    ghost use Rattle.uni_schema.specs.declared.refusal.SchemaRefusal.{SchemaRefusal};
+
+    ghost from_gives = { λ _ refusal. refusal ≡ SchemaRefusal.Memory };
+
+    fn from(_: AllocError) -> SchemaRefusal {
+        SchemaRefusal::Memory
+    }
+}

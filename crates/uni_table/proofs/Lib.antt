@@ -1,0 +1,10 @@
+mod Apart
+mod Compared
+mod DocKeys
+mod Filters
+mod Placed
+mod RankedIn
+mod Reached
+mod Starts
+mod Targets
+mod TargetsOf

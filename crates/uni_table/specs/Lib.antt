@@ -1,0 +1,6 @@
+pub mod Contents
+pub mod Commands
+pub mod Example
+pub mod Ranked
+pub mod Refusals
+pub mod TableState

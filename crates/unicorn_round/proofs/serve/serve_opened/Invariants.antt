@@ -1,0 +1,22 @@
+-- some first rounds were served
+use Rattle.std.proofs.Common.{◌≡◌, ◌+◌, ◌-◌, ◌≤◌, length}
+use Rattle.unicorn_round.specs.Reading.{EndFits, ReadMore}
+use Rattle.unicorn_round.specs.ServedRounds.{RoundsServed}
+use Rattle.unicorn_round.proofs.serve.serve_opened.Given as goal
+
+abbrev pub invariant-loop-text : goal.invariant-loop-text
+invariant-loop-text g l = record {
+  rounds : RoundsServed l.limits l.fn.schema l.service l.fn.reader l.reader (g.S.Source.left l.fn.source) (g.S.Source.left l.source)
+      (g.K.Sink.taken l.fn.sink) (g.K.Sink.taken l.sink) l.fn.first l.number;
+  read : ReadMore l.fn.reader l.reader (g.S.Source.left l.fn.source) (g.S.Source.left l.source);
+  limits : l.limits ≡ l.service.limits;
+  end : EndFits l.reader (g.S.Source.left l.source);
+  in_limit : l.reader.taken ≤ l.reader.limit;
+  same_limit : l.reader.limit ≡ l.fn.reader.limit;
+  counted : l.number + length l.reader.ahead ≤ l.reader.taken + 1;
+  source_quiet : g.S.Source.faults l.source ≡ g.S.Source.faults l.fn.source;
+  sink_quiet : g.K.Sink.faults l.sink ≡ g.K.Sink.faults l.fn.sink;
+}
+
+abbrev pub decreases-loop-text : goal.decreases-loop-text
+decreases-loop-text g l = l.reader.limit + 1 + length l.reader.ahead - l.reader.taken

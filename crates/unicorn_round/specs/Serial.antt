@@ -1,0 +1,60 @@
+-- Rounds answered line by line.
+use Rattle.std.specs.Prelude.{ℕ, ◌+◌, if◌then◌else◌, nat_lt, List, [], ◌∷◌, ◌++◌, is_some}
+use Rattle.uni_base.specs.declared.limits.Limits.{Limits}
+use Rattle.uni_schema.specs.Schema.{Declarations}
+use Rattle.uni_table.specs.declared.command.Command.{Command}
+use Rattle.uni_table.specs.Contents.{Contents, empty}
+use Rattle.uni_table.specs.Commands.{next, refuses, after_commands}
+use Rattle.unicorn_round.specs.declared.item.Item.{Item}
+use Rattle.unicorn_round.specs.declared.item.Item.TheVariants.{Change, Publish, Ask, NotYet}
+use Rattle.unicorn_round.specs.Queries.{reply_of}
+use Rattle.unicorn_round.specs.Printed.{published_line, not_yet_line, reply_lines}
+
+-- where a service stands that answers line by line: the table with what is pending, the pending batch,
+-- the table of the last version, and its number
+pub record Service : Type 0 where
+  pub pending : Contents
+  pub batch : List Command
+  pub published : Contents
+  pub publishes : ℕ
+
+-- a service under limits and a schema
+pub record Serving : Type 0 where
+  pub limits : Limits
+  pub schema : Declarations
+  pub at : Service
+
+abbrev pub opening_service : Service
+opening_service = record { pending = empty; batch = []; published = empty; publishes = 0 }
+
+-- the service after a line
+abbrev pub served : Limits → Declarations → Service → Item → Service
+served limits schema service (Change line command) =
+    if is_some (refuses schema limits service.pending command) then service
+    else record service { pending = next schema service.pending command; batch = service.batch ++ command ∷ [] }
+served limits schema service (Publish line) =
+    if nat_lt service.publishes limits.publishes
+    then record service { batch = []; published = after_commands schema service.published service.batch; publishes = service.publishes + 1 }
+    else service
+served limits schema service (Ask line session viewer limit query) = service
+served limits schema service (NotYet line) = service
+
+-- the service after lines
+abbrev pub served_all : Limits → Declarations → Service → List Item → Service
+served_all limits schema service [] = service
+served_all limits schema service (item ∷ items) = served_all limits schema (served limits schema service item) items
+
+-- what it answers to a line: a query at the last version
+abbrev pub serves : Limits → Declarations → Service → Item → List (List ℕ)
+serves limits schema service (Change line command) =
+    if is_some (refuses schema limits service.pending command) then not_yet_line line ∷ [] else []
+serves limits schema service (Publish line) =
+    if nat_lt service.publishes limits.publishes then published_line line (service.publishes + 1) ∷ [] else not_yet_line line ∷ []
+serves limits schema service (Ask line session viewer limit query) =
+    reply_lines schema line service.publishes (reply_of schema service.published query viewer limit)
+serves limits schema service (NotYet line) = not_yet_line line ∷ []
+
+-- what it answers to lines
+abbrev pub serves_all : Limits → Declarations → Service → List Item → List (List ℕ)
+serves_all limits schema service [] = []
+serves_all limits schema service (item ∷ items) = serves limits schema service item ++ serves_all limits schema (served limits schema service item) items

@@ -1,0 +1,24 @@
+//! The service: a script is read, round by round, and answered.
+#![tactic(auto)]
+
+mod chooser;
+mod feed;
+mod gate;
+mod item;
+mod line_item;
+mod lines;
+mod open;
+mod print;
+mod program;
+mod read_item;
+mod round;
+mod serve;
+mod show;
+mod status;
+mod write;
+
+pub use chooser::{Chooser, FirstChooser, TurnChooser};
+pub use gate::{Gate, OpenGate, Point};
+pub use program::run;
+pub use serve::serve_rounds;
+pub use status::Status;

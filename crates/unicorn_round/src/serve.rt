@@ -1,0 +1,157 @@
+ghost use Rattle.std.specs.Prelude.{◌≡◌, ◌<◌, ◌≤◌, ◌+◌, ◌^◌, ◌↔◌, ◌⊎◌, ◌≢◌, true, length};
+ghost use Rattle.uni_base.specs.Streams.{Rose};
+ghost use Rattle.uni_base.specs.StandardLimits.{IsWithinStandard};
+ghost use Rattle.unicorn_round.specs.Reading.{EndFits, ReadMore};
+ghost use Rattle.unicorn_round.specs.ServedRounds.{AllServed};
+ghost use Rattle.unicorn_round.specs.Outcome.{Ran};
+ghost use Rattle.unicorn_round.specs.Statuses.{status_of};
+
+use crate::chooser::Chooser;
+use crate::feed::Service;
+use crate::gate::Gate;
+use crate::lines::{LineReader, ScriptRefusal};
+use crate::open::{OpenRefusal, open};
+use crate::print::{push_not_yet, push_schema};
+use crate::round::answer_round;
+use crate::status::Status;
+use crate::write::write_all;
+use std::alloc::Global;
+use std::sync::{Arc, Wait};
+use std::thread::Threads;
+use uni_base::{Limits, Sink, Source};
+use uni_schema::{Schema, SchemaRefusal};
+
+/// Answers the rounds of a script whose header was read, each written in one piece before the next
+/// one is read. The first line after the header has this number.
+#[tactic(auto, using(crate::proofs::ReadSteps::reads_nothing, crate::proofs::ReadSteps::reads_append, crate::proofs::ServeLoop::rounds_served_start))]
+pub(crate) fn serve_opened<S: Source, K: Sink>(
+    alloc: Global,
+    limits: &Limits,
+    schema: Schema,
+    first: u64,
+    reader: &mut LineReader,
+    source: &mut S,
+    sink: &mut K,
+) -> Status
+    requires end { EndFits reader.old (S.left source.old) }
+    requires in_limit { reader.old.taken ≤ reader.old.limit }
+    requires standard { IsWithinStandard limits.now }
+    requires standard_limit { reader.old.limit ≤ 2 ^ 36 }
+    requires counted { first + length reader.old.ahead ≤ reader.old.taken + 1 }
+    ensures done { result ≡ Status.Done → AllServed limits.now schema reader.old reader.new (S.left source.old) (S.left source.new) (K.taken sink.old) (K.taken sink.new) first }
+    ensures read { ReadMore reader.old reader.new (S.left source.old) (S.left source.new) }
+    ensures end { EndFits reader.new (S.left source.new) }
+    ensures too_long { (result ≡ Status.TooLong) ↔ (reader.new.limit < reader.new.taken) }
+    ensures read_fault { result ≡ Status.ReadFault → Rose (S.faults source.old) (S.faults source.new) }
+    ensures write_fault { result ≡ Status.WriteFault → Rose (K.faults sink.old) (K.faults sink.new) }
+    ensures source_quiet { result ≡ Status.Done → S.faults source.new ≡ S.faults source.old }
+    ensures sink_quiet { result ≡ Status.Done → K.faults sink.new ≡ K.faults sink.old }
+    ensures others { (result ≡ Status.Done) ⊎ ((result ≡ Status.ReadFault) ⊎ ((result ≡ Status.WriteFault) ⊎ ((result ≡ Status.TooLong) ⊎ (result ≡ Status.Memory)))) }
+{
+    let Ok(schema) = Arc::new(alloc, schema) else {
+        return Status::Memory;
+    };
+    let Ok(mut service) = Service::new(alloc, schema, *limits) else {
+        return Status::Memory;
+    };
+    let mut number = first;
+    loop {
+        let mut text = Vec::new(alloc);
+        match answer_round(&mut service, limits, reader, source, number, &mut text) {
+            Ok(None) => return Status::Done,
+            Ok(Some(next)) => {
+                let Ok(()) = write_all(sink, text.as_slice()) else {
+                    return Status::WriteFault;
+                };
+                number = next;
+            }
+            Err(refusal) => return status_of(refusal),
+        }
+    }
+}
+
+/// The status of a run whose script could not be read to its end.
+pub(crate) fn status_of(refusal: ScriptRefusal) -> Status
+    ensures { result ≡ status_of refusal }
+{
+    match refusal {
+        ScriptRefusal::ReadFault => Status::ReadFault,
+        ScriptRefusal::TooLong(_) => Status::TooLong,
+        ScriptRefusal::Memory => Status::Memory,
+    }
+}
+
+/// Reads a script and answers it, line by line.
+pub(crate) fn serve_in_order<S: Source, K: Sink>(
+    alloc: Global,
+    limits: &Limits,
+    source: &mut S,
+    sink: &mut K,
+) -> Status
+    requires { IsWithinStandard limits.now }
+    ensures ran { Ran limits.now (S.left source.old) (S.left source.new) (K.taken sink.old) (K.taken sink.new) result }
+    ensures read_fault { result ≡ Status.ReadFault → Rose (S.faults source.old) (S.faults source.new) }
+    ensures write_fault { result ≡ Status.WriteFault → Rose (K.faults sink.old) (K.faults sink.new) }
+    ensures source_quiet { result ≡ Status.Done → S.faults source.new ≡ S.faults source.old }
+    ensures sink_quiet { result ≡ Status.Done → K.faults sink.new ≡ K.faults sink.old }
+{
+    let Ok(mut reader) = LineReader::new(alloc, limits.script) else {
+        return Status::Memory;
+    };
+    match open(alloc, limits, &mut reader, source) {
+        Ok(schema) => serve_opened(alloc, limits, schema, 5, &mut reader, source, sink),
+        Err(OpenRefusal::Schema(refusal)) => write_refusal(alloc, refusal, sink),
+        Err(OpenRefusal::Script(refusal)) => status_of(refusal),
+    }
+}
+
+/// Answers a script: the mode `serve`. Sessions, workers and replicas come with versions; so far the
+/// lines are answered one by one, and nothing waits.
+#[allow(clippy::too_many_arguments)]
+pub fn serve_rounds<R, S, K, C, G>(
+    _rt: &R,
+    alloc: Global,
+    limits: Limits,
+    _workers: u32,
+    source: &mut S,
+    sink: &mut K,
+    _chooser: &C,
+    _gate: &G,
+) -> Status
+where
+    R: Threads + Wait + Sync,
+    S: Source,
+    K: Sink,
+    C: Chooser + Sync,
+    G: Gate + Sync,
+    requires workers { (1 ≤ _workers) × (_workers ≤ 64) }
+    requires standard { IsWithinStandard limits }
+    ensures ran { Ran limits (S.left source.old) (S.left source.new) (K.taken sink.old) (K.taken sink.new) result }
+    ensures read_fault { result ≡ Status.ReadFault → Rose (S.faults source.old) (S.faults source.new) }
+    ensures write_fault { result ≡ Status.WriteFault → Rose (K.faults sink.old) (K.faults sink.new) }
+    ensures source_quiet { result ≡ Status.Done → S.faults source.new ≡ S.faults source.old }
+    ensures sink_quiet { result ≡ Status.Done → K.faults sink.new ≡ K.faults sink.old }
+{
+    serve_in_order(alloc, &limits, source, sink)
+}
+
+// The line for a header that is refused: `schema LINE 8`, or `notyet LINE`.
+fn write_refusal<K: Sink>(alloc: Global, refusal: SchemaRefusal, sink: &mut K) -> Status
+    ensures schema { result ≡ Status.Schema → refusal ≢ SchemaRefusal.Memory }
+    ensures write_fault { result ≡ Status.WriteFault → Rose (K.faults sink.old) (K.faults sink.new) }
+    ensures others { (result ≡ Status.Schema) ⊎ ((result ≡ Status.WriteFault) ⊎ (result ≡ Status.Memory)) }
+{
+    let mut text = Vec::new(alloc);
+    let printed = match refusal {
+        SchemaRefusal::NotYet(line) => push_not_yet(&mut text, line),
+        SchemaRefusal::NoBegin(line) => push_schema(&mut text, line, 8),
+        SchemaRefusal::Memory => return Status::Memory,
+    };
+    if printed.is_err() {
+        return Status::Memory;
+    }
+    if write_all(sink, text.as_slice()).is_err() {
+        return Status::WriteFault;
+    }
+    Status::Schema
+}
