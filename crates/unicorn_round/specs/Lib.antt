@@ -1,5 +1,6 @@
 pub mod Answered
 pub mod Answers
+pub mod Example
 pub mod Items
 pub mod LineItems
 pub mod Lines

@@ -2,6 +2,7 @@
 #![tactic(auto)]
 
 mod chooser;
+pub mod examples;
 mod feed;
 mod gate;
 mod item;
@@ -15,6 +16,8 @@ mod round;
 mod serve;
 mod show;
 mod status;
+#[cfg(test)]
+mod tests;
 mod write;
 
 pub use chooser::{Chooser, FirstChooser, TurnChooser};
