@@ -1,5 +1,6 @@
 # Writes a script of one vertical: `people` entities, four edges for each, and ten rounds that change
-# ranks, publish, and then ask nine queries. Usage: awk -v people=100000 -f examples/load.awk
+# ranks, publish, and then ask nine queries. The edges come in the order of their sources, or with
+# mixed=1 in no order. Usage: awk -v people=100000 [-v mixed=1] -f examples/load.awk
 function below(n) { seed = (seed * 16807) % 2147483647; return seed % n }
 function publish() { print "publish"; print "go" }
 BEGIN {
@@ -10,7 +11,7 @@ BEGIN {
     print "begin"
     for (id = 1; id <= people; id++) print "entity user", id, below(1000)
     for (edge = 0; edge < 4 * people; edge++)
-        print "edge friend", 1 + below(people), 1 + below(people), "public"
+        print "edge friend", 1 + (mixed ? below(people) : int(edge / 4)), 1 + below(people), "public"
     publish()
     for (round = 0; round < 10; round++) {
         for (change = 0; change < people / 10; change++)
