@@ -1,9 +1,8 @@
 //! The program `unicorn`: a script from standard input, its answers to standard output.
 #![tactic(auto)]
 
-use std::env;
-use std::io;
 use std::process::ExitCode;
+use std::{env, io};
 use uni_base::{StdSink, StdSource};
 use unicorn_round::{OpenGate, TurnChooser, run};
 
