@@ -16,12 +16,14 @@ use Rattle.uni_schema.specs.declared.schema.TypeDef.{TypeDef}
 use Rattle.uni_table.specs.declared.command.Command.{Command}
 use Rattle.uni_table.specs.Contents.{Contents, audience_at}
 use Rattle.uni_table.specs.Commands.{refuses, fold_of}
+use Rattle.uni_table.specs.Refusals.{code_of}
 use Rattle.unicorn_round.specs.declared.item.Item.{Item}
 use Rattle.unicorn_round.specs.declared.item.Item.TheVariants.{Change, Publish, Ask, NotYet}
 use Rattle.unicorn_round.specs.declared.item.TermQuery.{TermQuery}
 use Rattle.unicorn_round.specs.Lines.{has_lf, whole_lines, onto_whole, text_of}
 use Rattle.unicorn_round.specs.Queries.{ShownHit, term_edge, first_lineage, authorised, cut, reply_of}
-use Rattle.unicorn_round.specs.Printed.{edge_text, type_text, hit_line, published_line, not_yet_line, reply_line}
+use Rattle.unicorn_round.specs.Printed.{edge_text, type_text, hit_line, published_line, refused_line, not_yet_line, reply_line}
+use Rattle.unicorn_round.specs.Refusals.{too_many_publishes}
 use Rattle.unicorn_round.specs.Answers.{Mark, Record, Feed, fed, feed_after, answer_lines, round_lines, all_lines}
 use Rattle.unicorn_round.specs.Answered.{NamesAreWords}
 use Rattle.unicorn_round.proofs.Decimals.{both_true, all_digits-decimal}
@@ -141,6 +143,16 @@ module _ (schema : Declarations) (words : NamesAreWords schema) where
   unbroken-not_yet : (line : ℕ) → IsUnbroken (not_yet_line line)
   unbroken-not_yet line = unbroken-append (codes "notyet ") (decimal line) refl (unbroken-decimal line)
 
+  unbroken-refused : (line code : ℕ) → IsUnbroken (refused_line line code)
+  unbroken-refused line code =
+      unbroken-append (codes "refused ") (decimal line ++ (codes " " ++ decimal code)) refl
+      (unbroken-append (decimal line) (codes " " ++ decimal code) (unbroken-decimal line)
+      (unbroken-append (codes " ") (decimal code) refl (unbroken-decimal code)))
+
+  unbroken_refusal : (line : ℕ) (code : Option ℕ) → AllByRecursion IsUnbroken (option_map_or (λ n. refused_line line n ∷ []) code [])
+  unbroken_refusal line None = tt
+  unbroken_refusal line (Some code) = (unbroken-refused line code, tt)
+
   unbroken-published : (line n : ℕ) → IsUnbroken (published_line line n)
   unbroken-published line n =
       unbroken-append (codes "published ") (decimal line ++ (codes " " ++ decimal n)) refl
@@ -156,15 +168,11 @@ module _ (schema : Declarations) (words : NamesAreWords schema) where
       (unbroken-append (codes " hits ") (decimal count) refl (unbroken-decimal count)))))
 
   unbroken_answer : (limits : Limits) (journal : List (List Command)) (feed : Feed) (item : Item) (mark : Mark) → AllByRecursion IsUnbroken (answer_lines limits schema journal feed item mark)
-  unbroken_answer limits journal feed (Change line command) mark =
-      elim (is_some (refuses schema limits feed.table command)) as (λ b. AllByRecursion IsUnbroken (if b then not_yet_line line ∷ [] else [])) [
-        | true ↦ (unbroken-not_yet line, tt)
-        | false ↦ tt
-      ]
+  unbroken_answer limits journal feed (Change line command) mark = unbroken_refusal line (option_and_then code_of (refuses schema limits feed.table command))
   unbroken_answer limits journal feed (Publish line) mark =
-      elim (nat_lt (length feed.journal) limits.publishes) as (λ b. AllByRecursion IsUnbroken (if b then published_line line (length feed.journal + 1) ∷ [] else not_yet_line line ∷ [])) [
+      elim (nat_lt (length feed.journal) limits.publishes) as (λ b. AllByRecursion IsUnbroken (if b then published_line line (length feed.journal + 1) ∷ [] else refused_line line too_many_publishes ∷ [])) [
         | true ↦ (unbroken-published line (length feed.journal + 1), tt)
-        | false ↦ (unbroken-not_yet line, tt)
+        | false ↦ (unbroken-refused line too_many_publishes, tt)
       ]
   unbroken_answer limits journal feed (Ask line session viewer limit query) mark =
       let n : ℕ = unwrap_or mark 0 in

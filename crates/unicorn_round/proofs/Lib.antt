@@ -1,6 +1,7 @@
 mod Answering
 mod AskText
 mod Breaks
+mod Complete
 mod Cuts
 mod Decimals
 mod Fronts

@@ -8,12 +8,12 @@ use Rattle.uni_schema.specs.Schema.{Declarations, nothing}
 use Rattle.uni_schema.specs.Header.{HeaderState, IsOpen, Takes, declares, opens, not_yet, short, opening_from, opening_of}
 use Rattle.uni_schema.specs.declared.refusal.SchemaRefusal.{SchemaRefusal}
 use Rattle.uni_schema.specs.declared.refusal.SchemaRefusal.TheVariants.{NotYet, NoBegin, Memory}
-use Rattle.unicorn_round.specs.Lines.{lines_of}
+use Rattle.unicorn_round.specs.Lines.{lines_of, lines_so_far}
 use Rattle.unicorn_round.specs.Opened.{Opened, SchemaRefused, Refuses, Begun}
 use Rattle.unicorn_round.specs.Reading.{LineState, Grew, IsFront, IsSpent}
 use Rattle.unicorn_round.specs.Rounds.{Passed}
-use Rattle.unicorn_round.proofs.Fronts.{lines_of-front}
-use Rattle.unicorn_round.proofs.PassedSteps.{passed_start, passed_none, passed_front, passed_more}
+use Rattle.unicorn_round.proofs.Fronts.{so_far-front}
+use Rattle.unicorn_round.proofs.PassedSteps.{passed_start, passed_none, passed_front, passed_more, so_far}
 
 -- a line at the front stands within what is ahead
 pub front_within : (state : LineState) (len : ℕ) → IsFront state len → len ≤ length state.ahead
@@ -107,7 +107,8 @@ header_filled limits before now filled left_before left_now left_after header s 
 
 -- a refusal of the bytes that were taken
 refused_by : (limits : Limits) (refusal : SchemaRefusal) (before after : LineState) (left_before left_after : Option (List ℕ)) (header : HeaderState)
-    (s : HeaderSoFar limits before after left_before left_after header) → after.taken ≤ after.limit → Refuses limits refusal before after s.passed.more
+    (s : HeaderSoFar limits before after left_before left_after header) → after.taken ≤ after.limit
+    → Refuses refusal (opening_of limits.line (s.lines ++ lines_so_far after.ended after.ahead)) after.ended
     → SchemaRefused limits refusal before after left_before left_after
 refused_by limits refusal before after left_before left_after header s in_limit refuses = record {
   more = s.passed.more;
@@ -115,17 +116,17 @@ refused_by limits refusal before after left_before left_after header s in_limit 
   taken = s.passed.taken;
   limit = s.passed.limit;
   in_limit = in_limit;
-  refuses = refuses;
+  refuses = subst (λ lines. Refuses refusal (opening_of limits.line lines) after.ended) (sym (so_far before after left_before left_after s.lines s.passed)) refuses;
 }
 
 -- the line at the front is refused, whatever follows
 refuses_line : (limits : Limits) (before filled : LineState) (left_before left_after : Option (List ℕ)) (header : HeaderState) (number len : ℕ)
     (s : HeaderSoFar limits before filled left_before left_after header) → IsOpen header → IsFront filled len → number ≡ header.taken + 1
-    → declares header (take len filled.ahead) ≡ None → Refuses limits (NotYet number) before filled s.passed.more
-refuses_line limits before filled left_before left_after header number len s unfinished front number_is declared = λ x stops.
+    → declares header (take len filled.ahead) ≡ None → opening_of limits.line (s.lines ++ lines_so_far filled.ended filled.ahead) ≡ not_yet number
+refuses_line limits before filled left_before left_after header number len s unfinished front number_is declared =
     let line : List ℕ = take len filled.ahead in
-    let rest : List (List ℕ) = lines_of (drop (suc len) filled.ahead ++ x) in
-    ap (opening_of limits.line) (s.passed.lines x stops ∙ ap (λ ls. s.lines ++ ls) (lines_of-front filled len front x stops))
+    let rest : List (List ℕ) = lines_so_far filled.ended (drop (suc len) filled.ahead) in
+    ap (λ ls. opening_of limits.line (s.lines ++ ls)) (so_far-front filled len front)
     ∙ s.follows (line ∷ rest)
     ∙ ap (λ n. opening_from n header (line ∷ rest)) (left-suc header.taken unfinished.few)
     ∙ opening_from-refuses (4 - (header.taken + 1)) header line rest declared
@@ -162,23 +163,21 @@ pub header_ends : (limits : Limits) (before now filled : LineState) (left_before
     → filled.taken ≤ filled.limit → SchemaRefused limits (NoBegin number) before filled left_before left_after
 header_ends limits before now filled left_before left_now left_after header number s unfinished g spent number_is in_limit =
     refused_by limits (NoBegin number) before filled left_before left_after header t in_limit (
-      spent,
+      spent.0,
       (
         header.taken,
         number_is,
-        ap (opening_of limits.line) all_lines ∙ opening_short limits before filled left_before left_after header t unfinished,
+        ap (λ ls. opening_of limits.line (t.lines ++ ls)) none
+            ∙ ap (opening_of limits.line) (append-nil t.lines)
+            ∙ opening_short limits before filled left_before left_after header t unfinished,
       ),
     )
   where
     t : HeaderSoFar limits before filled left_before left_after header
     t = header_filled limits before now filled left_before left_now left_after header s g
 
-    all_lines : lines_of (before.ahead ++ t.passed.more) ≡ t.lines
-    all_lines =
-        ap (λ more. lines_of (before.ahead ++ more)) (sym (append-nil t.passed.more))
-        ∙ t.passed.lines [] (λ _. refl)
-        ∙ ap (λ ahead. t.lines ++ lines_of (ahead ++ [])) spent.1
-        ∙ append-nil t.lines
+    none : lines_so_far filled.ended filled.ahead ≡ []
+    none = ap (λ ended. lines_so_far ended filled.ahead) spent.0 ∙ ap lines_of spent.1
 
 -- reading stops within the header
 pub header_begun : (limits : Limits) (before now after : LineState) (left_before left_now left_after : Option (List ℕ)) (header : HeaderState)

@@ -1,181 +1,308 @@
 -- How a run ends, from how its parts do.
-use Rattle.std.proofs.Common.{◌≡◌, ◌≢◌, ℕ, ◌<◌, ◌⊎◌, ◌↔◌, inl, inr, Bool, true, false, List, [], ◌++◌, Option, sym, ◌∙◌, ap, subst, refl, arith, length-append}
+use Rattle.std.proofs.Common.{◌≡◌, ℕ, ◌+◌, ◌-◌, ◌≤◌, ◌<◌, ◌⊎◌, inl, inr, Bool, true, false, List, [], ◌∷◌, ◌++◌, length, take, Option, None, Some, sym, ◌∙◌, ap, subst, refl, arith, length-append, append-nil}
+use Rattle.std.specs.Prelude.{count_by, cond}
+use Rattle.std.proofs.Math.Seq.{take-append_seam, take-append-add}
+use Rattle.std.proofs.lemmas.List.{append_assoc}
+use Rattle.std.proofs.lemmas.List.Sums.{sum_by-append}
 use Rattle.uni_base.specs.StandardLimits.{IsWithinStandard}
 use Rattle.uni_base.specs.declared.limits.Limits.{Limits}
 use Rattle.uni_schema.specs.Schema.{Declarations}
-use Rattle.uni_schema.specs.Header.{opens, opening_of}
+use Rattle.uni_schema.specs.Header.{Opening, opens, not_yet, short, opening_of}
 use Rattle.uni_schema.specs.declared.refusal.SchemaRefusal.{SchemaRefusal}
 use Rattle.uni_schema.specs.declared.refusal.SchemaRefusal.TheVariants.{NotYet, NoBegin, Memory as NoRoom}
+use Rattle.unicorn_round.specs.declared.item.Item.{Item}
 use Rattle.unicorn_round.specs.declared.lines.ScriptRefusal.{ScriptRefusal}
 use Rattle.unicorn_round.specs.declared.lines.ScriptRefusal.TheVariants.{ReadFault as ReadFailed, TooLong as PastLimit, Memory as NoMemory}
 use Rattle.unicorn_round.specs.declared.status.Status.{Status}
 use Rattle.unicorn_round.specs.declared.status.Status.TheVariants.{Done, Usage, Schema, ReadFault, WriteFault, TooLong, Memory}
-use Rattle.unicorn_round.specs.Lines.{lines_of}
+use Rattle.unicorn_round.specs.Answered.{Answered}
+use Rattle.unicorn_round.specs.Items.{is_go}
+use Rattle.unicorn_round.specs.Lines.{lines_of, lines_so_far, whole_lines}
 use Rattle.unicorn_round.specs.Opened.{Opened, Begun, SchemaRefused, Refuses}
-use Rattle.unicorn_round.specs.Outcome.{Ran, Ends, HeaderFault}
-use Rattle.unicorn_round.specs.Reading.{LineState, EndFits, ReadMore}
-use Rattle.unicorn_round.specs.Rounds.{rounds_from}
-use Rattle.unicorn_round.specs.ServedRounds.{AllServed}
-use Rattle.unicorn_round.specs.Statuses.{status_of}
-use Rattle.unicorn_round.specs.Stops.{Stops}
+use Rattle.unicorn_round.specs.Outcome.{Ran, Ends, AnswersAll, AnswersFirst, IsDue, opening_so_far, header_fault}
+use Rattle.unicorn_round.specs.Printed.{not_yet_line, schema_line}
+use Rattle.unicorn_round.specs.Reading.{LineState, EndFits, IsSpent}
+use Rattle.unicorn_round.specs.Rounds.{Passed, rounds_from, closed_from, rounds_so_far}
+use Rattle.unicorn_round.specs.ServedRounds.{Served, FirstRounds, ClosedRounds, AllRounds, serial_text}
+use Rattle.unicorn_round.specs.Statuses.{status_of, refusal_text, RefusalWritten}
+use Rattle.unicorn_round.specs.Stops.{Stops, StopsFor, IsOut, IsPastLimit}
+use Rattle.unicorn_round.specs.Writing.{Took, TookPrefix}
 use Rattle.unicorn_round.proofs.Answering.{answered_of_opening}
-use Rattle.unicorn_round.proofs.ReadSteps.{gave-append, reads_append}
+use Rattle.unicorn_round.proofs.Fronts.{so_far-passed, whole_lines-unbroken}
+use Rattle.unicorn_round.proofs.PassedSteps.{passed_start, passed_more, so_far}
+use Rattle.unicorn_round.proofs.ServeLoop.{stops_for, took_none}
 
 -- where a reader stands before it reads
 abbrev pub fresh : Limits → LineState
 fresh limits = record { ahead = []; taken = 0; limit = limits.script; ended = false }
 
--- the script was answered whole
-pub answers_script : (limits : Limits) (schema : Declarations) (mid after : LineState) (left left_mid left_after taken taken_after : Option (List ℕ))
-    → IsWithinStandard limits → (o : Opened limits schema (fresh limits) mid left left_mid) → (s : AllServed limits schema mid after left_mid left_after taken taken_after 5)
-    → Ends limits (o.passed.more ++ s.more) true taken taken_after Done
-answers_script limits schema mid after left left_mid left_after taken taken_after standard o s = (
-  refl,
-  (
-    _,
-    s.written,
-    record {
-      schema = schema;
-      rest = rest;
-      opened = opened;
-      answered = answered_of_opening limits schema limits.line (lines_of (o.passed.more ++ s.more)) rest (rounds_from limits schema 5 rest) _ standard opened refl;
-    },
-  ),
-)
-  where
-    rest : List (List ℕ)
-    rest = lines_of (mid.ahead ++ s.more)
-
-    opened : opening_of limits.line (lines_of (o.passed.more ++ s.more)) ≡ opens schema rest
-    opened = ap (opening_of limits.line) (o.passed.lines s.more s.spent) ∙ o.known rest
-
--- the statuses of a run that stopped
-abbrev pub Stopped : Status → Type 0
-Stopped Done = ⊥
-Stopped Usage = ⊥
-Stopped Schema = ⊥
-Stopped ReadFault = Unit {0}
-Stopped WriteFault = Unit {0}
-Stopped TooLong = Unit {0}
-Stopped Memory = Unit {0}
-
-ends_stopped : (limits : Limits) (bytes : List ℕ) (ended : Bool) (taken taken_after : Option (List ℕ)) (status : Status) → Stopped status → Ends limits bytes ended taken taken_after status
-ends_stopped limits bytes ended taken taken_after Done h = absurd h
-ends_stopped limits bytes ended taken taken_after Usage h = absurd h
-ends_stopped limits bytes ended taken taken_after Schema h = absurd h
-ends_stopped limits bytes ended taken taken_after ReadFault h = tt
-ends_stopped limits bytes ended taken taken_after WriteFault h = tt
-ends_stopped limits bytes ended taken taken_after TooLong h = tt
-ends_stopped limits bytes ended taken taken_after Memory h = tt
+-- only a run that is too long stands past its limit
+past_only : (after : LineState) (status : Status) → StopsFor after status → after.limit < after.taken → status ≡ TooLong
+past_only after Done s past = absurd (omega (arith, s, past))
+past_only after Usage s past = absurd (omega (arith, s, past))
+past_only after Schema s past = absurd (omega (arith, s, past))
+past_only after ReadFault s past = absurd (omega (arith, s.in_limit, past))
+past_only after WriteFault s past = absurd (omega (arith, s, past))
+past_only after TooLong s past = refl
+past_only after Memory s past = absurd (omega (arith, s, past))
 
 -- a reader's counts are those of the bytes that it took
-pub ran_read : (limits : Limits) (after : LineState) (left left_after taken taken_after : Option (List ℕ)) (status : Status)
-    → (r : ReadMore (fresh limits) after left left_after) → EndFits after left_after
-    → (status ≡ TooLong → after.limit < after.taken) → (after.limit < after.taken → status ≡ TooLong)
-    → Ends limits r.more after.ended taken taken_after status → Ran limits left left_after taken taken_after status
-ran_read limits after left left_after taken taken_after status r end past within ends = record {
-  bytes = r.more;
-  gave = r.gave;
+ran_by : (limits : Limits) (after : LineState) (left left_after taken taken_after : Option (List ℕ)) (status : Status) (lines : List (List ℕ))
+    (p : Passed (fresh limits) after left left_after lines) → EndFits after left_after → StopsFor after status
+    → Ends limits p.more after.ended taken taken_after status → Ran limits left left_after taken taken_after status
+ran_by limits after left left_after taken taken_after status lines p end stops ends = record {
+  bytes = p.more;
+  gave = p.gave;
   ended = after.ended;
   none_left = end;
   ends = ends;
-  too_long = λ e. let h : after.limit < after.taken = past e in omega (arith, r.taken, r.limit, h);
-  in_limit = λ h. let more : after.limit < after.taken = omega (arith, r.taken, r.limit, h) in within more;
+  too_long = λ e. let past : IsPastLimit after = subst (StopsFor after) e stops in omega (arith, p.taken, p.limit, past.past);
+  in_limit = λ h. past_only after status stops (omega (arith, p.taken, p.limit, h));
 }
 
-pub ran_stopped : (limits : Limits) (after : LineState) (left left_after taken taken_after : Option (List ℕ)) (status : Status)
-    → ReadMore (fresh limits) after left left_after → EndFits after left_after
-    → (status ≡ TooLong → after.limit < after.taken) → (after.limit < after.taken → status ≡ TooLong)
-    → Stopped status → Ran limits left left_after taken taken_after status
-ran_stopped limits after left left_after taken taken_after status r end past within stopped =
-    ran_read limits after left left_after taken taken_after status r end past within (ends_stopped limits r.more after.ended taken taken_after status stopped)
+-- rounds under a header that opens are answered by their text
+answered_rounds : (limits : Limits) (schema : Declarations) (lines rest : List (List ℕ)) (rounds : List (List Item)) → IsWithinStandard limits
+    → opening_of limits.line lines ≡ opens schema rest → Answered limits schema rounds (serial_text limits schema rounds)
+answered_rounds limits schema lines rest rounds standard opened =
+    answered_of_opening limits schema limits.line lines rest rounds (serial_text limits schema rounds) standard opened refl
 
--- the header was refused
-header_fault : (limits : Limits) (refusal : SchemaRefusal) (after : LineState) (more : List ℕ) → refusal ≢ NoRoom → Refuses limits refusal (fresh limits) after more
-    → HeaderFault limits more after.ended
-header_fault limits (NotYet line) after more some refuses = inl (line, refuses)
-header_fault limits (NoBegin line) after more some refuses = inr (refuses.0.0, (refuses.1.0, refuses.1.2))
-header_fault limits NoRoom after more some refuses = absurd (some refl)
-
-abbrev pub refused_reads : (limits : Limits) (refusal : SchemaRefusal) (after : LineState) (left left_after : Option (List ℕ)) → SchemaRefused limits refusal (fresh limits) after left left_after
-    → ReadMore (fresh limits) after left left_after
-refused_reads limits refusal after left left_after s = record { more = s.more; gave = s.gave; taken = s.taken; limit = s.limit }
-
-pub ran_refused : (limits : Limits) (refusal : SchemaRefusal) (after : LineState) (left left_after taken taken_after : Option (List ℕ))
-    → SchemaRefused limits refusal (fresh limits) after left left_after → EndFits after left_after → refusal ≢ NoRoom → Ran limits left left_after taken taken_after Schema
-ran_refused limits refusal after left left_after taken taken_after s end some =
-    ran_read limits after left left_after taken taken_after Schema (refused_reads limits refusal after left left_after s) end
-    (λ e. cc) (λ h. absurd (omega (arith, s.in_limit, h)))
-    (header_fault limits refusal after s.more some s.refuses)
-
--- by the three statuses of a header that is refused
-pub ran_refusal : (limits : Limits) (refusal : SchemaRefusal) (after : LineState) (left left_after taken taken_after : Option (List ℕ)) (status : Status)
-    → SchemaRefused limits refusal (fresh limits) after left left_after → EndFits after left_after → (status ≡ Schema → refusal ≢ NoRoom)
-    → (status ≡ Schema) ⊎ ((status ≡ WriteFault) ⊎ (status ≡ Memory)) → Ran limits left left_after taken taken_after status
-ran_refusal limits refusal after left left_after taken taken_after status s end some others = by others
+-- nothing answers no round
+answers_nothing : (limits : Limits) (ended : Bool) (lines : List (List ℕ)) → IsWithinStandard limits → AnswersFirst limits ended (opening_of limits.line lines) []
+answers_nothing limits ended lines standard = by (opening_of limits.line lines) refl
   where
-    reads : ReadMore (fresh limits) after left left_after
-    reads = refused_reads limits refusal after left left_after s
+    by : (o : Opening) → opening_of limits.line lines ≡ o → AnswersFirst limits ended o []
+    by (opens schema rest) e = (0, answered_rounds limits schema lines rest [] standard e)
+    by (not_yet line) e = refl
+    by (short count) e = refl
 
-    within : {status' : Status} → after.limit < after.taken → status' ≡ TooLong
-    within h = absurd (omega (arith, s.in_limit, h))
+-- no line is ahead
+no_lines : (ended : Bool) (ahead : List ℕ) → ahead ≡ [] → lines_so_far ended ahead ≡ []
+no_lines true ahead none = ap lines_of none
+no_lines false ahead none = ap whole_lines none
 
-    by : (status ≡ Schema) ⊎ ((status ≡ WriteFault) ⊎ (status ≡ Memory)) → Ran limits left left_after taken taken_after status
-    by (inl e) = subst (Ran limits left left_after taken taken_after) (sym e) (ran_refused limits refusal after left left_after taken taken_after s end (some e))
-    by (inr (inl e)) = subst (Ran limits left left_after taken taken_after) (sym e)
-        (ran_stopped limits after left left_after taken taken_after WriteFault reads end (λ x. cc) (λ h. absurd (omega (arith, s.in_limit, h))) tt)
-    by (inr (inr e)) = subst (Ran limits left left_after taken taken_after) (sym e)
-        (ran_stopped limits after left left_after taken taken_after Memory reads end (λ x. cc) (λ h. absurd (omega (arith, s.in_limit, h))) tt)
+-- what the bytes up to the limit hold
+up_to_limit : (limits : Limits) (after : LineState) (left left_after : Option (List ℕ)) (lines : List (List ℕ)) (p : Passed (fresh limits) after left left_after lines) → IsPastLimit after
+    → lines_so_far false (take limits.script p.more) ≡ lines
+up_to_limit limits after left left_after lines p past =
+    ap (lines_so_far false) first
+    ∙ so_far-passed false p.gone past.front lines (λ rest stops. p.lines rest (λ ended. absurd (closed ended)))
+    ∙ ap (λ ls. lines ++ ls) (whole_lines-unbroken past.front past.none)
+    ∙ append-nil lines
+  where
+    closed : after.ended ≡ true → ⊥
+    closed ended = let wrong : true ≡ false = sym ended ∙ past.unended in cc
+
+    all : p.more ≡ (p.gone ++ past.front) ++ past.last ∷ []
+    all = p.split ∙ ap (λ ahead. p.gone ++ ahead) past.ahead ∙ sym (append_assoc p.gone past.front (past.last ∷ []))
+
+    count : limits.script ≡ length (p.gone ++ past.front)
+    count = omega (arith, p.taken, p.limit, past.past, ap (length {A = ℕ}) all, length-append (p.gone ++ past.front) (past.last ∷ []))
+
+    first : take limits.script p.more ≡ p.gone ++ past.front
+    first = ap (λ bytes. take limits.script bytes) all ∙ ap (λ n. take n ((p.gone ++ past.front) ++ past.last ∷ [])) count ∙ take-append_seam (p.gone ++ past.front) (past.last ∷ [])
+
+-- what all bytes hold where no whole line is ahead
+up_to_lf : (limits : Limits) (after : LineState) (left left_after : Option (List ℕ)) (lines : List (List ℕ)) (p : Passed (fresh limits) after left left_after lines) → IsOut after
+    → lines_so_far false p.more ≡ lines
+up_to_lf limits after left left_after lines p out =
+    ap (λ ended. lines_so_far ended p.more) (sym out.unended)
+    ∙ so_far (fresh limits) after left left_after lines p
+    ∙ ap (λ ended. lines ++ lines_so_far ended after.ahead) out.unended
+    ∙ ap (λ ls. lines ++ ls) (whole_lines-unbroken after.ahead out.none)
+    ∙ append-nil lines
+
+module _ (limits : Limits) (schema : Declarations) (mid after : LineState) (left left_mid left_after taken taken_after : Option (List ℕ)) (standard : IsWithinStandard limits)
+    (o : Opened limits schema (fresh limits) mid left left_mid) where
+  whole : (lines : List (List ℕ)) → Passed mid after left_mid left_after lines → Passed (fresh limits) after left left_after (o.header ++ lines)
+  whole lines p = passed_more (fresh limits) mid after left left_mid left_after o.header lines o.passed p
+
+  -- the rounds that are closed
+  all_closed : (bytes : List ℕ) (lines : List (List ℕ)) (rounds : List (List Item)) → lines_so_far false bytes ≡ o.header ++ lines → closed_from limits schema 5 0 lines ≡ rounds
+      → AnswersAll limits false (opening_so_far limits false bytes) (serial_text limits schema rounds)
+  all_closed bytes lines rounds so_far closed =
+      let opened : opening_so_far limits false bytes ≡ opens schema lines = ap (opening_of limits.line) so_far ∙ o.known lines in
+      subst (λ op. AnswersAll limits false op (serial_text limits schema rounds)) (sym opened)
+      (subst (λ rs. Answered limits schema rs (serial_text limits schema rounds)) (sym closed)
+      (answered_rounds limits schema (lines_so_far false bytes) lines rounds standard opened))
+
+  -- the first of the rounds so far
+  first_so_far : (rounds : List (List Item)) (f : FirstRounds limits schema mid after left_mid left_after 5 rounds)
+      → take (length rounds) (rounds_so_far after.ended limits schema 5 (f.lines ++ lines_so_far after.ended after.ahead)) ≡ rounds
+  first_so_far rounds f = by after.ended refl
+    where
+      rest : List (List ℕ)
+      rest = lines_so_far after.ended after.ahead
+
+      more : (more : List (List Item)) × (rounds_from limits schema 5 0 (f.lines ++ rest) ≡ rounds ++ more)
+      more = f.begin rest (λ spent. no_lines after.ended after.ahead spent.1)
+
+      by : (ended : Bool) → after.ended ≡ ended → take (length rounds) (rounds_so_far ended limits schema 5 (f.lines ++ rest)) ≡ rounds
+      by true e = ap (take (length rounds)) more.1 ∙ take-append_seam rounds more.0
+      by false e = enough f.whole
+        where
+          count : ℕ
+          count = count_by is_go (f.lines ++ rest)
+
+          enough : (length rounds ≤ count_by is_go f.lines) ⊎ IsSpent after → take (length rounds) (take count (rounds_from limits schema 5 0 (f.lines ++ rest))) ≡ rounds
+          enough (inr spent) = let wrong : true ≡ false = sym spent.0 ∙ e in absurd cc
+          enough (inl below) =
+              let over : ℕ = count - length rounds in
+              let sum : count ≡ length rounds + over = omega (arith, below, sum_by-append (λ line. cond (is_go line) 1 0) f.lines rest) in
+              ap (λ rs. take (length rounds) (take count rs)) more.1
+              ∙ ap (λ n. take (length rounds) (take n (rounds ++ more.0))) sum
+              ∙ ap (take (length rounds)) (take-append-add rounds more.0 over)
+              ∙ take-append_seam rounds (take over more.0)
+
+  some_first : (rounds : List (List Item)) (f : FirstRounds limits schema mid after left_mid left_after 5 rounds)
+      → (opening_so_far limits after.ended (whole f.lines f.passed).more ≡ opens schema (f.lines ++ lines_so_far after.ended after.ahead))
+      × AnswersFirst limits after.ended (opens schema (f.lines ++ lines_so_far after.ended after.ahead)) (serial_text limits schema rounds)
+  some_first rounds f =
+      let rest : List (List ℕ) = f.lines ++ lines_so_far after.ended after.ahead in
+      let lines : lines_so_far after.ended (whole f.lines f.passed).more ≡ o.header ++ rest =
+      so_far (fresh limits) after left left_after (o.header ++ f.lines) (whole f.lines f.passed) ∙ append_assoc o.header f.lines (lines_so_far after.ended after.ahead) in
+      let opened : opening_so_far limits after.ended (whole f.lines f.passed).more ≡ opens schema rest = ap (opening_of limits.line) lines ∙ o.known rest in (
+        opened,
+        (
+          length rounds,
+          subst (λ rs. Answered limits schema rs (serial_text limits schema rounds)) (sym (first_so_far rounds f))
+              (answered_rounds limits schema (lines_so_far after.ended (whole f.lines f.passed).more) rest rounds standard opened),
+        ),
+      )
+
+  -- the header was read, and the rounds were served
+  ran_served : (status : Status) → EndFits after left_after → StopsFor after status → Served limits schema mid after left_mid left_after taken taken_after 5 status
+      → Ran limits left left_after taken taken_after status
+  ran_served Done end stops (rounds, f, took) =
+      let p = whole f.lines f.passed in
+      let lines : lines_so_far true p.more ≡ o.header ++ f.lines =
+      ap (λ ended. lines_so_far ended p.more) (sym f.spent.0)
+      ∙ so_far (fresh limits) after left left_after (o.header ++ f.lines) p
+      ∙ ap (λ ls. (o.header ++ f.lines) ++ ls) (no_lines after.ended after.ahead f.spent.1)
+      ∙ append-nil (o.header ++ f.lines) in
+      let opened : opening_so_far limits true p.more ≡ opens schema f.lines = ap (opening_of limits.line) lines ∙ o.known f.lines in
+      ran_by limits after left left_after taken taken_after Done (o.header ++ f.lines) p end stops (
+        f.spent.0,
+        (
+          serial_text limits schema rounds,
+          took,
+          subst (λ op. AnswersAll limits true op (serial_text limits schema rounds)) (sym opened)
+              (subst (λ rs. Answered limits schema rs (serial_text limits schema rounds)) (sym f.all)
+              (answered_rounds limits schema (lines_so_far true p.more) f.lines rounds standard opened)),
+        ),
+      )
+  ran_served ReadFault end stops (rounds, f, took) =
+      let p = whole f.lines f.passed in
+      ran_by limits after left left_after taken taken_after ReadFault (o.header ++ f.lines) p end stops (
+        stops.unended,
+        (
+          serial_text limits schema rounds,
+          took,
+          all_closed p.more f.lines rounds (up_to_lf limits after left left_after (o.header ++ f.lines) p stops) f.closed,
+        ),
+      )
+  ran_served TooLong end stops (rounds, f, took) =
+      let p = whole f.lines f.passed in
+      ran_by limits after left left_after taken taken_after TooLong (o.header ++ f.lines) p end stops (
+        stops.unended,
+        (
+          serial_text limits schema rounds,
+          took,
+          all_closed (take limits.script p.more) f.lines rounds (up_to_limit limits after left left_after (o.header ++ f.lines) p stops) f.closed,
+        ),
+      )
+  ran_served Memory end stops (rounds, f, took) =
+      let some = some_first rounds f in
+      ran_by limits after left left_after taken taken_after Memory (o.header ++ f.lines) (whole f.lines f.passed) end stops
+      (serial_text limits schema rounds, took, subst (λ op. AnswersFirst limits after.ended op (serial_text limits schema rounds)) (sym some.0) some.1)
+  ran_served WriteFault end stops (rounds, f, took) =
+      let some = some_first rounds f in
+      ran_by limits after left left_after taken taken_after WriteFault (o.header ++ f.lines) (whole f.lines f.passed) end stops
+      (serial_text limits schema rounds, took, subst (λ op. IsDue limits after.ended op (serial_text limits schema rounds)) (sym some.0) some.1)
+  ran_served Usage end stops served = absurd served
+  ran_served Schema end stops served = absurd served
+
+pub ran_opened : (limits : Limits) (schema : Declarations) (mid after : LineState) (left left_mid left_after taken taken_after : Option (List ℕ)) (status : Status)
+    → IsWithinStandard limits → Opened limits schema (fresh limits) mid left left_mid → EndFits after left_after → StopsFor after status
+    → Served limits schema mid after left_mid left_after taken taken_after 5 status → Ran limits left left_after taken taken_after status
+ran_opened limits schema mid after left left_mid left_after taken taken_after status standard o end stops served =
+    ran_served limits schema mid after left left_mid left_after taken taken_after standard o status end stops served
+
+-- nothing was read, and memory was wanting
+pub ran_at_once : (limits : Limits) (left taken : Option (List ℕ)) → IsWithinStandard limits → Ran limits left left taken taken Memory
+ran_at_once limits left taken standard =
+    let p = passed_start (fresh limits) left in
+    ran_by limits (fresh limits) left left taken taken Memory [] p (λ ended. cc) (omega arith)
+    ([], took_none taken, answers_nothing limits false (lines_so_far false p.more) standard)
 
 -- the script broke off in its header
-pub ran_begun : (limits : Limits) (refusal : ScriptRefusal) (after : LineState) (left left_after taken taken_after : Option (List ℕ))
-    → Begun limits (fresh limits) after left left_after → EndFits after left_after → Stops after refusal → Ran limits left left_after taken taken_after (status_of refusal)
-ran_begun limits refusal after left left_after taken taken_after b end stops = by refusal stops
+pub ran_begun : (limits : Limits) (refusal : ScriptRefusal) (after : LineState) (left left_after taken : Option (List ℕ)) → IsWithinStandard limits
+    → Begun limits (fresh limits) after left left_after → EndFits after left_after → Stops after refusal → Ran limits left left_after taken taken (status_of refusal)
+ran_begun limits refusal after left left_after taken standard b end stops = by refusal stops
   where
-    reads : ReadMore (fresh limits) after left left_after
-    reads = record { more = b.passed.more; gave = b.passed.gave; taken = b.passed.taken; limit = b.passed.limit }
+    p : Passed (fresh limits) after left left_after b.lines
+    p = b.passed
 
-    by : (r : ScriptRefusal) → Stops after r → Ran limits left left_after taken taken_after (status_of r)
-    by ReadFailed s = ran_stopped limits after left left_after taken taken_after ReadFault reads end (λ x. cc) (λ h. absurd (omega (arith, s, h))) tt
-    by (PastLimit count) s = ran_stopped limits after left left_after taken taken_after TooLong reads end (λ x. s.1) (λ h. refl) tt
-    by NoMemory s = ran_stopped limits after left left_after taken taken_after Memory reads end (λ x. cc) (λ h. absurd (omega (arith, s, h))) tt
+    unopened : (bytes : List ℕ) → lines_so_far false bytes ≡ b.lines → AnswersAll limits false (opening_so_far limits false bytes) []
+    unopened bytes lines = subst (λ op. AnswersAll limits false op []) (sym (ap (opening_of limits.line) lines ∙ b.begun)) (refl, refl)
 
--- the header was read, and the rounds were served
-pub ran_opened : (limits : Limits) (schema : Declarations) (mid after : LineState) (left left_mid left_after taken taken_after : Option (List ℕ)) (status : Status)
-    → IsWithinStandard limits → Opened limits schema (fresh limits) mid left left_mid → ReadMore mid after left_mid left_after → EndFits after left_after
-    → (status ≡ Done → AllServed limits schema mid after left_mid left_after taken taken_after 5)
-    → (status ≡ TooLong) ↔ (after.limit < after.taken)
-    → (status ≡ Done) ⊎ ((status ≡ ReadFault) ⊎ ((status ≡ WriteFault) ⊎ ((status ≡ TooLong) ⊎ (status ≡ Memory))))
+    by : (r : ScriptRefusal) → Stops after r → Ran limits left left_after taken taken (status_of r)
+    by ReadFailed s = ran_by limits after left left_after taken taken ReadFault b.lines p end s
+        (s.unended, ([], took_none taken, unopened p.more (up_to_lf limits after left left_after b.lines p s)))
+    by (PastLimit count) s = ran_by limits after left left_after taken taken TooLong b.lines p end s.1
+        (s.1.unended, ([], took_none taken, unopened (take limits.script p.more) (up_to_limit limits after left left_after b.lines p s.1)))
+    by NoMemory s = ran_by limits after left left_after taken taken Memory b.lines p end s
+        ([], took_none taken, answers_nothing limits after.ended (lines_so_far after.ended p.more) standard)
+
+-- the header was refused
+pub ran_refusal : (limits : Limits) (refusal : SchemaRefusal) (after : LineState) (left left_after taken taken_after : Option (List ℕ)) (status : Status) → IsWithinStandard limits
+    → SchemaRefused limits refusal (fresh limits) after left left_after → EndFits after left_after → RefusalWritten refusal taken taken_after status
     → Ran limits left left_after taken taken_after status
-ran_opened limits schema mid after left left_mid left_after taken taken_after status standard o r end done past others = by others
+ran_refusal limits refusal after left left_after taken taken_after status standard s end written = by status written
   where
-    opening : ReadMore (fresh limits) mid left left_mid
-    opening = record { more = o.passed.more; gave = o.passed.gave; taken = o.passed.taken; limit = o.passed.limit }
+    opening : Opening
+    opening = opening_so_far limits after.ended s.more
 
-    reads : ReadMore (fresh limits) after left left_after
-    reads = reads_append (fresh limits) mid after left left_mid left_after opening r
+    -- the line that is written is that of the fault
+    told : (r : SchemaRefusal) (text : List ℕ) → Refuses r opening after.ended → refusal_text r ≡ Some text
+        → (line : List ℕ) × (text ≡ line ++ 10 ∷ []) × (header_fault after.ended opening ≡ Some line) × IsDue limits after.ended opening text
+    told (NotYet line) text refuses e =
+        let is : text ≡ not_yet_line line ++ 10 ∷ [] = cc in (
+          not_yet_line line,
+          is,
+          ap (header_fault after.ended) refuses,
+          subst (λ op. IsDue limits after.ended op text) (sym refuses) is,
+        )
+    told (NoBegin line) text (ended, (count, line_is, short_is)) e =
+        let same : text ≡ schema_line line 8 ++ 10 ∷ [] = cc in
+        let is : text ≡ schema_line (count + 1) 8 ++ 10 ∷ [] = same ∙ ap (λ n. schema_line n 8 ++ 10 ∷ []) line_is in (
+          schema_line (count + 1) 8,
+          is,
+          ap (λ b. header_fault b opening) ended ∙ ap (header_fault true) short_is,
+          subst (λ b. IsDue limits b opening text) (sym ended) (subst (λ op. IsDue limits true op text) (sym short_is) is),
+        )
+    told NoRoom text refuses e = absurd cc
 
-    stopped : (s : Status) → status ≡ s → Stopped s → Ran limits left left_after taken taken_after status
-    stopped s e h = ran_stopped limits after left left_after taken taken_after status reads end past.0 past.1 (subst Stopped (sym e) h)
+    ran : (st : Status) → StopsFor after st → Ends limits s.more after.ended taken taken_after st → Ran limits left left_after taken taken_after st
+    ran st stops ends = record {
+      bytes = s.more;
+      gave = s.gave;
+      ended = after.ended;
+      none_left = end;
+      ends = ends;
+      too_long = λ e. let past : IsPastLimit after = subst (StopsFor after) e stops in omega (arith, s.taken, s.limit, past.past);
+      in_limit = λ h. past_only after st stops (omega (arith, s.taken, s.limit, h));
+    }
 
-    served : status ≡ Done → Ran limits left left_after taken taken_after status
-    served e =
-        let s = done e in
-        let whole : ReadMore (fresh limits) after left left_after = record {
-          more = o.passed.more ++ s.more;
-          gave = gave-append left left_mid left_after o.passed.more s.more o.passed.gave s.gave;
-          taken = omega (arith, o.passed.taken, s.taken, length-append o.passed.more s.more);
-          limit = s.limit ∙ o.passed.limit;
-        } in
-        let ends : Ends limits (o.passed.more ++ s.more) after.ended taken taken_after status =
-        subst (λ b. Ends limits (o.passed.more ++ s.more) b taken taken_after status) (sym s.ended)
-        (subst (Ends limits (o.passed.more ++ s.more) true taken taken_after) (sym e)
-        (answers_script limits schema mid after left left_mid left_after taken taken_after standard o s)) in
-        ran_read limits after left left_after taken taken_after status whole end past.0 past.1 ends
-
-    by : (status ≡ Done) ⊎ ((status ≡ ReadFault) ⊎ ((status ≡ WriteFault) ⊎ ((status ≡ TooLong) ⊎ (status ≡ Memory)))) → Ran limits left left_after taken taken_after status
-    by (inl e) = served e
-    by (inr (inl e)) = stopped ReadFault e tt
-    by (inr (inr (inl e))) = stopped WriteFault e tt
-    by (inr (inr (inr (inl e)))) = stopped TooLong e tt
-    by (inr (inr (inr (inr e)))) = stopped Memory e tt
+    by : (st : Status) → RefusalWritten refusal taken taken_after st → Ran limits left left_after taken taken_after st
+    by Schema (text, e, took) =
+        let t = told refusal text s.refuses e in
+        ran Schema s.in_limit (t.0, subst (λ x. Took taken x taken_after) t.1 took, t.2)
+    by WriteFault (text, e, took) =
+        let t = told refusal text s.refuses e in
+        ran WriteFault s.in_limit (text, took, t.3)
+    by Memory same =
+        ran Memory s.in_limit ([], subst (Took taken []) (sym same) (took_none taken), answers_nothing limits after.ended (lines_so_far after.ended s.more) standard)
+    by Done w = absurd w
+    by Usage w = absurd w
+    by ReadFault w = absurd w
+    by TooLong w = absurd w

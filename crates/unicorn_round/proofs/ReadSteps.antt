@@ -1,7 +1,9 @@
 -- From what a read says to what reading takes.
-use Rattle.std.proofs.Common.{◌≡◌, true, ℕ, List, [], ◌++◌, Option, None, Some, sym, ◌∙◌, ap, subst, refl, arith, length-append, append-nil}
+use Rattle.std.proofs.Common.{◌≡◌, ◌≤◌, ◌<◌, ◌+◌, true, false, ℕ, List, [], ◌∷◌, ◌++◌, length, Option, None, Some, sym, ◌∙◌, ap, subst, refl, arith, length-append, append-nil}
 use Rattle.std.proofs.lemmas.List.{append_assoc}
-use Rattle.unicorn_round.specs.Reading.{Gave, Grew, LineState, ReadMore}
+use Rattle.unicorn_round.specs.Lines.{has_lf}
+use Rattle.unicorn_round.specs.Reading.{Gave, Grew, LineState}
+use Rattle.unicorn_round.specs.Stops.{IsPastLimit}
 
 -- nothing
 pub gave-nothing : (left : Option (List ℕ)) → Gave left [] left
@@ -38,28 +40,21 @@ grew_append first second third a b c g h = record {
   spent = λ e. ap (λ xs. xs ++ h.more) (g.spent e) ∙ h.spent (g.stays e);
 }
 
--- the bytes that were read
-pub grew_reads : (before filled after : LineState) (left_before left_after : Option (List ℕ)) → Grew before filled left_before left_after
-    → after.taken ≡ filled.taken → after.limit ≡ filled.limit → ReadMore before after left_before left_after
-grew_reads before filled after left_before left_after g taken limit = record {
-  more = g.more;
-  gave = g.gave;
-  taken = taken ∙ g.taken;
-  limit = limit ∙ g.limit;
-}
+one_byte : (bytes : List ℕ) → length bytes ≡ 1 → (last : ℕ) × (bytes ≡ last ∷ [])
+one_byte [] e = absurd (omega (arith, e))
+one_byte (b ∷ []) e = (b, refl)
+one_byte (b ∷ c ∷ bytes) e = absurd (omega (arith, e))
 
-pub reads_nothing : (state : LineState) (left : Option (List ℕ)) → ReadMore state state left left
-reads_nothing state left = record {
-  more = [];
-  gave = gave-nothing left;
-  taken = omega arith;
-  limit = refl;
-}
-
-pub reads_append : (first second third : LineState) (a b c : Option (List ℕ)) → ReadMore first second a b → ReadMore second third b c → ReadMore first third a c
-reads_append first second third a b c g h = record {
-  more = g.more ++ h.more;
-  gave = gave-append a b c g.more h.more g.gave h.gave;
-  taken = omega (arith, g.taken, h.taken, length-append g.more h.more);
-  limit = h.limit ∙ g.limit;
-}
+-- a read past the limit took one byte
+pub past_limit : (after : LineState) (ahead more : List ℕ) (taken : ℕ) → after.ahead ≡ ahead ++ more → has_lf ahead ≡ false → length more ≡ 1 → after.ended ≡ false
+    → after.taken ≡ taken + length more → taken ≡ after.limit → IsPastLimit after
+past_limit after ahead more taken is none one unended count full =
+    let byte = one_byte more one in
+    record {
+      front = ahead;
+      last = byte.0;
+      ahead = is ∙ ap (λ bs. ahead ++ bs) byte.1;
+      none = none;
+      unended = unended;
+      past = omega (arith, count, one, full);
+    }

@@ -10,7 +10,8 @@ use Rattle.unicorn_round.specs.declared.item.Item.{Item}
 use Rattle.unicorn_round.specs.declared.item.Item.TheVariants.{Change, Publish, Ask, NotYet}
 use Rattle.unicorn_round.specs.Lines.{text_of}
 use Rattle.unicorn_round.specs.Queries.{reply_of}
-use Rattle.unicorn_round.specs.Printed.{published_line, not_yet_line, reply_lines}
+use Rattle.unicorn_round.specs.Printed.{published_line, refused_line, not_yet_line, reply_lines}
+use Rattle.unicorn_round.specs.Refusals.{refusal_lines, too_many_publishes}
 
 -- the items of lists, one list after the other
 abbrev pub joined : {A : Type 0} → List (List A) → List A
@@ -65,10 +66,9 @@ Record = List (List Mark)
 
 -- the lines that answer a line, under a journal, where the feed stands so before it
 abbrev pub answer_lines : Limits → Declarations → List (List Command) → Feed → Item → Mark → List (List ℕ)
-answer_lines limits schema journal feed (Change line command) mark =
-    if is_some (refuses schema limits feed.table command) then not_yet_line line ∷ [] else []
+answer_lines limits schema journal feed (Change line command) mark = refusal_lines line (refuses schema limits feed.table command)
 answer_lines limits schema journal feed (Publish line) mark =
-    if nat_lt (length feed.journal) limits.publishes then published_line line (length feed.journal + 1) ∷ [] else not_yet_line line ∷ []
+    if nat_lt (length feed.journal) limits.publishes then published_line line (length feed.journal + 1) ∷ [] else refused_line line too_many_publishes ∷ []
 answer_lines limits schema journal feed (Ask line session viewer limit query) mark =
     let n = unwrap_or mark 0 in
     reply_lines schema line n (reply_of schema (fold_of schema (take n journal)) query viewer limit)

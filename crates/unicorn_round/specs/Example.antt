@@ -8,9 +8,11 @@ use Rattle.uni_table.specs.Example.{friends, user, friend}
 use Rattle.uni_table.specs.declared.command.Command.{Command}
 use Rattle.unicorn_round.specs.declared.item.Item.{Item}
 use Rattle.unicorn_round.specs.declared.item.Item.TheVariants.{Change, Publish, Ask}
+use Rattle.unicorn_round.specs.declared.item.RoundLine.{RoundLine}
 use Rattle.unicorn_round.specs.declared.item.TermQuery.{TermQuery}
 use Rattle.unicorn_round.specs.Answers.{Record, answers}
-use Rattle.unicorn_round.specs.Items.{item_of}
+use Rattle.unicorn_round.specs.Items.{line_of}
+use Rattle.unicorn_round.specs.Rounds.{rounds_from}
 use Rattle.unicorn_round.specs.Queries.{cut, reply_of}
 
 -- the script
@@ -38,9 +40,28 @@ rounds =
 abbrev pub told_at : ℕ → Record
 told_at n = (None ∷ None ∷ None ∷ None ∷ None ∷ None ∷ None ∷ None ∷ []) ∷ (Some n ∷ []) ∷ []
 
--- the item of a line of this text and number
-abbrev pub item : ℕ → List ℕ → Item
-item number text = item_of standard_limits friends number text
+-- what a line of this text and number is, where none counts before it
+abbrev pub line : ℕ → List ℕ → RoundLine
+line number text = line_of standard_limits friends number 0 text
+
+-- and under limits of 8 bytes for a line and of two lines for a round, with so many before it
+abbrev pub limited : ℕ → List ℕ → RoundLine
+limited before text = line_of (record standard_limits { line = 8; round = 2 }) friends 12 before text
+
+-- the rounds of lines under such limits, the first of which is line 12
+abbrev pub limited_rounds : List (List ℕ) → List (List Item)
+limited_rounds texts = rounds_from (record standard_limits { line = 8; round = 2 }) friends 12 0 texts
+
+-- lines after the first seven: refusals among them, an edge to nobody, one from nobody, both, and a second
+-- publish where one is allowed
+abbrev pub refusals : List (List Item)
+refusals =
+    (Change 5 (user 1 50) ∷ Change 6 (user 2 90) ∷ Change 7 (friend (codes "1") 4) ∷ Change 8 (friend (codes "4") 1) ∷ Change 9 (friend (codes "4") 6)
+    ∷ Publish 10 ∷ Change 11 (user 3 90) ∷ Publish 12 ∷ []) ∷ []
+
+-- a record without a number
+abbrev pub no_number : Record
+no_number = (None ∷ None ∷ None ∷ None ∷ None ∷ None ∷ None ∷ None ∷ []) ∷ []
 
 -- the batch that the script publishes, and one more, by which user 5 rises to the first place
 abbrev pub journal : List (List Command)
@@ -65,6 +86,12 @@ pub answered : answers standard_limits friends rounds (told_at 1)
     ≡ codes "published 12 1\nreply 14 at 1 hits 3\nhit 2 via friend:1>2\nhit 3 via friend:1>3\nhit 5 via friend:1>5\n"
 unfolding digits
 answered = refl
+
+-- the text of refusals: each by the first reason, and a full table and a publish too many by their own
+pub refused : answers (record standard_limits { entities = 2; publishes = 1 }) friends refusals no_number
+    ≡ codes "refused 7 14\nrefused 8 13\nrefused 9 13\npublished 10 1\nrefused 11 18\nrefused 12 51\n"
+unfolding digits
+refused = refl
 
 -- at the version before the publish there is no hit
 pub answered_before : answers standard_limits friends rounds (told_at 0) ≡ codes "published 12 1\nreply 14 at 0 hits 0\n"

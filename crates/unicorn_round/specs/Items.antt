@@ -1,5 +1,5 @@
 -- The lines of a round.
-use Rattle.std.specs.Prelude.{ℕ, Bool, ◌≡◌, if◌then◌else◌, List, Option, None, Some, codes, unwrap_or}
+use Rattle.std.specs.Prelude.{ℕ, Bool, true, ◌≡◌, ◌==◌, ◌&&◌, nat_lt, nat_le, if◌then◌else◌, List, [], ◌∷◌, length, Option, None, Some, codes, unwrap_or}
 use Rattle.std.specs.Option.{option_map, option_and_then}
 use Rattle.uni_base.specs.Fields.{same, cut_at}
 use Rattle.uni_base.specs.Words.{is_word}
@@ -13,6 +13,8 @@ use Rattle.uni_table.specs.declared.command.AudienceText.TheVariants.{Public}
 use Rattle.unicorn_round.specs.declared.item.TermQuery.{TermQuery}
 use Rattle.unicorn_round.specs.declared.item.Item.{Item}
 use Rattle.unicorn_round.specs.declared.item.Item.TheVariants.{Change, Publish, Ask, NotYet}
+use Rattle.unicorn_round.specs.declared.item.RoundLine.{RoundLine}
+use Rattle.unicorn_round.specs.declared.item.RoundLine.TheVariants as lines
 
 -- the word that a text is, if it is one
 abbrev pub word_of : List ℕ → Option (List ℕ)
@@ -94,7 +96,7 @@ item_with limits schema number word fields =
     else (if same word (codes "edge") then option_map (Change number) (edge_line schema fields)
     else when (same word (codes "ask")) (ask_line limits schema number fields))
 
--- what a line is that does not end its round
+-- what a line is by its form
 abbrev pub item_of : Limits → Declarations → ℕ → List ℕ → Item
 item_of limits schema number line =
     if same line (codes "publish") then Publish number
@@ -104,6 +106,25 @@ item_of limits schema number line =
 abbrev pub is_go : List ℕ → Bool
 is_go line = same line (codes "go")
 
--- LineIs: the one item of a line, by its number
-abbrev pub LineIs : Limits → Declarations → ℕ → List ℕ → Item → Type 0
-LineIs limits schema number line item = item_of limits schema number line ≡ item
+-- whether a line is skipped, however long: it is empty, or a remark
+abbrev pub is_skipped : List ℕ → Bool
+is_skipped [] = true
+is_skipped (b ∷ bytes) = b == 35
+
+-- the item of a line that counts, with so many before it in its round: one line too many, or a line that
+-- is too long, has no form
+abbrev pub counted_item : Limits → Declarations → ℕ → ℕ → List ℕ → Item
+counted_item limits schema number before line =
+    if nat_lt before limits.round && nat_le (length line) limits.line then item_of limits schema number line else NotYet number
+
+-- what a line of a round is
+unfoldable pub line_of : Limits → Declarations → ℕ → ℕ → List ℕ → RoundLine
+line_of limits schema number before line =
+    if is_go line then lines.Go
+    else (if is_skipped line then lines.Skipped
+    else lines.Item (counted_item limits schema number before line))
+
+-- LineIs: the one thing that a line is, by its number in the script and by how many lines that count
+-- stand before it in its round
+abbrev pub LineIs : Limits → Declarations → ℕ → ℕ → List ℕ → RoundLine → Type 0
+LineIs limits schema number before line what = line_of limits schema number before line ≡ what

@@ -1,5 +1,6 @@
 pub mod Answered
 pub mod Answers
+pub mod Completeness
 pub mod Example
 pub mod Items
 pub mod LineItems
@@ -9,6 +10,7 @@ pub mod Outcome
 pub mod Printed
 pub mod Queries
 pub mod Reading
+pub mod Refusals
 pub mod RoundAnswers
 pub mod Rounds
 pub mod Serial

@@ -1,5 +1,5 @@
 -- Lines, and runs of lines, as pieces that a terminator ends.
-use Rattle.std.specs.Prelude.{ℕ, Bool, ◌==◌, if◌then◌else◌, List, [], ◌∷◌, ◌++◌}
+use Rattle.std.specs.Prelude.{ℕ, Bool, true, false, ◌==◌, if◌then◌else◌, List, [], ◌∷◌, ◌++◌}
 use Rattle.std.specs.List.{flat_map, list_any}
 
 -- an item at the front of the first piece
@@ -34,6 +34,12 @@ lines_of bytes = pieces (λ b. b == 10) bytes
 -- the lines that have their LF
 abbrev pub whole_lines : List ℕ → List (List ℕ)
 whole_lines bytes = whole_pieces (λ b. b == 10) bytes
+
+-- the lines of a script as far as its bytes were taken: those that have their LF, and at the end of the
+-- input the last one too
+abbrev pub lines_so_far : Bool → List ℕ → List (List ℕ)
+lines_so_far true bytes = lines_of bytes
+lines_so_far false bytes = whole_lines bytes
 
 -- the bytes of lines, each with its LF
 abbrev pub text_of : List (List ℕ) → List ℕ

@@ -1,14 +1,14 @@
 -- What reading a header gives.
-use Rattle.std.specs.Prelude.{ℕ, true, ◌≡◌, ◌≤◌, ◌+◌, ◌++◌, List, [], length, Option, ⊤}
+use Rattle.std.specs.Prelude.{ℕ, Bool, true, ◌≡◌, ◌≤◌, ◌+◌, ◌++◌, List, [], length, Option, ⊤}
 use Rattle.uni_base.specs.declared.limits.Limits.{Limits}
 use Rattle.uni_schema.specs.Schema.{Declarations}
-use Rattle.uni_schema.specs.Header.{opens, not_yet, short, opening_of}
+use Rattle.uni_schema.specs.Header.{Opening, opens, not_yet, short, opening_of}
 use Rattle.uni_schema.specs.declared.refusal.SchemaRefusal.{SchemaRefusal}
 use Rattle.uni_schema.specs.declared.refusal.SchemaRefusal.TheVariants.{NotYet, NoBegin, Memory}
 use Rattle.unicorn_round.specs.declared.open.OpenRefusal.{OpenRefusal}
 use Rattle.unicorn_round.specs.declared.open.OpenRefusal.TheVariants.{Schema, Script}
-use Rattle.unicorn_round.specs.Lines.{lines_of}
-use Rattle.unicorn_round.specs.Reading.{LineState, Gave, IsSpent}
+use Rattle.unicorn_round.specs.Lines.{lines_so_far}
+use Rattle.unicorn_round.specs.Reading.{LineState, Gave}
 use Rattle.unicorn_round.specs.Rounds.{Passed}
 use Rattle.unicorn_round.specs.Stops.{Stops}
 
@@ -20,13 +20,11 @@ pub record Opened (limits : Limits) (schema : Declarations) (before after : Line
   pub known : (rest : List (List ℕ)) → opening_of limits.line (header ++ rest) ≡ opens schema rest
   pub in_limit : after.taken ≤ after.limit
 
--- why a header is refused: for a line, whatever follows, or for its end
-abbrev pub Refuses : Limits → SchemaRefusal → LineState → LineState → List ℕ → Type 0
-Refuses limits (NotYet line) before after more =
-    (x : List ℕ) → (after.ended ≡ true → x ≡ []) → opening_of limits.line (lines_of (before.ahead ++ (more ++ x))) ≡ not_yet line
-Refuses limits (NoBegin line) before after more =
-    IsSpent after × ((count : ℕ) × (line ≡ count + 1) × (opening_of limits.line (lines_of (before.ahead ++ more)) ≡ short count))
-Refuses limits Memory before after more = ⊤
+-- a header is refused for a line, or because the input ended before `begin`; want of memory is free
+abbrev pub Refuses : SchemaRefusal → Opening → Bool → Type 0
+Refuses (NotYet line) opening ended = opening ≡ not_yet line
+Refuses (NoBegin line) opening ended = (ended ≡ true) × ((count : ℕ) × (line ≡ count + 1) × (opening ≡ short count))
+Refuses Memory opening ended = ⊤
 
 -- a reader took bytes, in which the header is refused
 pub record SchemaRefused (limits : Limits) (refusal : SchemaRefusal) (before after : LineState) (left_before left_after : Option (List ℕ)) : Type 0 where
@@ -35,7 +33,7 @@ pub record SchemaRefused (limits : Limits) (refusal : SchemaRefusal) (before aft
   pub taken : after.taken ≡ before.taken + length more
   pub limit : after.limit ≡ before.limit
   pub in_limit : after.taken ≤ after.limit
-  pub refuses : Refuses limits refusal before after more
+  pub refuses : Refuses refusal (opening_of limits.line (lines_so_far after.ended (before.ahead ++ more))) after.ended
 
 -- a reader went past lines that begin a header, and stopped
 pub record Begun (limits : Limits) (before after : LineState) (left_before left_after : Option (List ℕ)) : Type 0 where

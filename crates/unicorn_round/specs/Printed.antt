@@ -29,6 +29,10 @@ hit_line schema hit = codes "hit " ++ (decimal hit.id ++ (codes " via" ++ flat_m
 abbrev pub published_line : ℕ → ℕ → List ℕ
 published_line line n = codes "published " ++ (decimal line ++ (codes " " ++ decimal n))
 
+-- `refused LINE CODE`
+abbrev pub refused_line : ℕ → ℕ → List ℕ
+refused_line line code = codes "refused " ++ (decimal line ++ (codes " " ++ decimal code))
+
 -- `notyet LINE`
 abbrev pub not_yet_line : ℕ → List ℕ
 not_yet_line line = codes "notyet " ++ decimal line

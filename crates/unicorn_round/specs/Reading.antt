@@ -30,13 +30,6 @@ pub record Grew (before after : LineState) (left_before left_after : Option (Lis
   pub stays : before.ended ≡ true → after.ended ≡ true
   pub spent : before.ended ≡ true → more ≡ []
 
--- a reader took bytes more, whatever became of them
-pub record ReadMore (before after : LineState) (left_before left_after : Option (List ℕ)) : Type 0 where
-  pub more : List ℕ
-  pub gave : Gave left_before more left_after
-  pub taken : after.taken ≡ before.taken + length more
-  pub limit : after.limit ≡ before.limit
-
 -- a reader that has read the end of the input has a source with nothing left
 abbrev pub EndFits : LineState → Option (List ℕ) → Type 0
 EndFits state left = state.ended ≡ true → NoneLeft left

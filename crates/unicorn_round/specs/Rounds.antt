@@ -1,31 +1,47 @@
 -- The rounds of a script.
-use Rattle.std.specs.Prelude.{ℕ, true, ◌≡◌, ◌+◌, ◌<◌, ◌≤◌, if◌then◌else◌, List, [], ◌∷◌, ◌++◌, length, Option}
+use Rattle.std.specs.Prelude.{ℕ, Bool, true, false, ◌≡◌, ◌+◌, ◌≤◌, List, [], ◌∷◌, ◌++◌, length, take, count_by, Option}
 use Rattle.uni_base.specs.declared.limits.Limits.{Limits}
 use Rattle.uni_schema.specs.Schema.{Declarations}
-use Rattle.unicorn_round.specs.declared.item.Item.{Item}
-use Rattle.unicorn_round.specs.Items.{item_of, is_go}
-use Rattle.unicorn_round.specs.Lines.{onto_first, onto_whole, lines_of}
+use Rattle.unicorn_round.specs.declared.item.Item.{Item as AnItem}
+use Rattle.unicorn_round.specs.declared.item.RoundLine.{RoundLine}
+use Rattle.unicorn_round.specs.declared.item.RoundLine.TheVariants.{Go, Skipped, Item}
+use Rattle.unicorn_round.specs.Items.{line_of, is_go}
+use Rattle.unicorn_round.specs.Lines.{lines_of}
 use Rattle.unicorn_round.specs.Reading.{LineState, Gave}
 
--- the items of lines, the first of which has this number
-abbrev pub items_from : Limits → Declarations → ℕ → List (List ℕ) → List Item
-items_from limits schema number [] = []
-items_from limits schema number (line ∷ lines) = item_of limits schema number line ∷ items_from limits schema (number + 1) lines
+-- how many lines of its round count, after a line that so many stand before: `go` begins another round,
+-- and a skipped line does not count
+abbrev pub counted_after : ℕ → RoundLine → ℕ
+counted_after before Go = 0
+counted_after before Skipped = before
+counted_after before (Item item) = before + 1
 
--- Rounds: the rounds of lines, the first of which has this number. A round ends with `go`, or with the
--- lines
-abbrev pub rounds_from : Limits → Declarations → ℕ → List (List ℕ) → List (List Item)
-rounds_from limits schema number [] = []
-rounds_from limits schema number (line ∷ lines) =
-    if is_go line then [] ∷ rounds_from limits schema (number + 1) lines
-    else onto_first (item_of limits schema number line) (rounds_from limits schema (number + 1) lines)
+-- a line in front of rounds: `go` is all that is left of a round; any other line stands in the first of
+-- them, which it begins where there is none
+abbrev pub in_front : RoundLine → List (List AnItem) → List (List AnItem)
+in_front Go rounds = [] ∷ rounds
+in_front Skipped [] = [] ∷ []
+in_front Skipped (round ∷ rounds) = round ∷ rounds
+in_front (Item item) [] = (item ∷ []) ∷ []
+in_front (Item item) (round ∷ rounds) = (item ∷ round) ∷ rounds
 
--- Closed: the rounds that end with their `go`
-abbrev pub closed_from : Limits → Declarations → ℕ → List (List ℕ) → List (List Item)
-closed_from limits schema number [] = []
-closed_from limits schema number (line ∷ lines) =
-    if is_go line then [] ∷ closed_from limits schema (number + 1) lines
-    else onto_whole (item_of limits schema number line) (closed_from limits schema (number + 1) lines)
+-- Rounds: the rounds of lines, the first of which has this number, with so many lines that count before
+-- it in its round. A round ends with `go`, or with the lines
+abbrev pub rounds_from : Limits → Declarations → ℕ → ℕ → List (List ℕ) → List (List AnItem)
+rounds_from limits schema number before [] = []
+rounds_from limits schema number before (line ∷ lines) =
+    let what : RoundLine = line_of limits schema number before line in
+    in_front what (rounds_from limits schema (number + 1) (counted_after before what) lines)
+
+-- Closed: the rounds that end with their `go`: the first ones, as many as there are such lines
+abbrev pub closed_from : Limits → Declarations → ℕ → ℕ → List (List ℕ) → List (List AnItem)
+closed_from limits schema number before lines = take (count_by is_go lines) (rounds_from limits schema number before lines)
+
+-- the rounds of a script as far as its lines were taken, from the line of this number on: those that are
+-- closed, and at the end of the input the last one too
+abbrev pub rounds_so_far : Bool → Limits → Declarations → ℕ → List (List ℕ) → List (List AnItem)
+rounds_so_far true limits schema number lines = rounds_from limits schema number 0 lines
+rounds_so_far false limits schema number lines = closed_from limits schema number 0 lines
 
 -- a reader went past lines
 pub record Passed (before after : LineState) (left_before left_after : Option (List ℕ)) (passed : List (List ℕ)) : Type 0 where
@@ -33,22 +49,12 @@ pub record Passed (before after : LineState) (left_before left_after : Option (L
   pub gave : Gave left_before more left_after
   pub taken : after.taken ≡ before.taken + length more
   pub limit : after.limit ≡ before.limit
-  -- whatever follows, and nothing does after the end
-  pub lines : (x : List ℕ) → (after.ended ≡ true → x ≡ []) → lines_of (before.ahead ++ (more ++ x)) ≡ passed ++ lines_of (after.ahead ++ x)
+  -- the bytes of the lines, and those ahead
+  pub gone : List ℕ
+  pub split : before.ahead ++ more ≡ gone ++ after.ahead
+  -- whatever follows them; at the end of the input that is what is ahead
+  pub lines : (rest : List ℕ) → (after.ended ≡ true → rest ≡ after.ahead) → lines_of (gone ++ rest) ≡ passed ++ lines_of rest
   pub stays : before.ended ≡ true → after.ended ≡ true
   pub spent : before.ended ≡ true → more ≡ []
   -- each line has at least a byte
   pub bytes : length passed + length after.ahead ≤ length before.ahead + length more
-
--- a reader went past a round, whose first line has a number, as has the line after it
-pub record PassedRound (limits : Limits) (schema : Declarations) (before after : LineState) (left_before left_after : Option (List ℕ)) (number later : ℕ) (round : List Item) : Type 0 where
-  pub more : List ℕ
-  pub gave : Gave left_before more left_after
-  pub taken : after.taken ≡ before.taken + length more
-  pub limit : after.limit ≡ before.limit
-  pub rounds : (x : List ℕ) → (after.ended ≡ true → x ≡ [])
-      → rounds_from limits schema number (lines_of (before.ahead ++ (more ++ x))) ≡ round ∷ rounds_from limits schema later (lines_of (after.ahead ++ x))
-  pub stays : before.ended ≡ true → after.ended ≡ true
-  pub spent : before.ended ≡ true → more ≡ []
-  pub onward : number < later
-  pub bytes : later + length after.ahead ≤ number + (length before.ahead + length more)

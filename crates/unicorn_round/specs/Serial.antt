@@ -8,7 +8,8 @@ use Rattle.uni_table.specs.Commands.{next, refuses, after_commands}
 use Rattle.unicorn_round.specs.declared.item.Item.{Item}
 use Rattle.unicorn_round.specs.declared.item.Item.TheVariants.{Change, Publish, Ask, NotYet}
 use Rattle.unicorn_round.specs.Queries.{reply_of}
-use Rattle.unicorn_round.specs.Printed.{published_line, not_yet_line, reply_lines}
+use Rattle.unicorn_round.specs.Printed.{published_line, refused_line, not_yet_line, reply_lines}
+use Rattle.unicorn_round.specs.Refusals.{refusal_lines, too_many_publishes}
 
 -- where a service stands that answers line by line: the table with what is pending, the pending batch,
 -- the table of the last version, and its number
@@ -27,15 +28,21 @@ pub record Serving : Type 0 where
 abbrev pub opening_service : Service
 opening_service = record { pending = empty; batch = []; published = empty; publishes = 0 }
 
+-- the service after a publish: the pending batch is taken into the last version
+abbrev pub with_version : Declarations → Service → Service
+with_version schema service = record service {
+  batch = [];
+  published = after_commands schema service.published service.batch;
+  publishes = service.publishes + 1;
+}
+
 -- the service after a line
 abbrev pub served : Limits → Declarations → Service → Item → Service
 served limits schema service (Change line command) =
     if is_some (refuses schema limits service.pending command) then service
     else record service { pending = next schema service.pending command; batch = service.batch ++ command ∷ [] }
 served limits schema service (Publish line) =
-    if nat_lt service.publishes limits.publishes
-    then record service { batch = []; published = after_commands schema service.published service.batch; publishes = service.publishes + 1 }
-    else service
+    if nat_lt service.publishes limits.publishes then with_version schema service else service
 served limits schema service (Ask line session viewer limit query) = service
 served limits schema service (NotYet line) = service
 
@@ -46,10 +53,9 @@ served_all limits schema service (item ∷ items) = served_all limits schema (se
 
 -- what it answers to a line: a query at the last version
 abbrev pub serves : Limits → Declarations → Service → Item → List (List ℕ)
-serves limits schema service (Change line command) =
-    if is_some (refuses schema limits service.pending command) then not_yet_line line ∷ [] else []
+serves limits schema service (Change line command) = refusal_lines line (refuses schema limits service.pending command)
 serves limits schema service (Publish line) =
-    if nat_lt service.publishes limits.publishes then published_line line (service.publishes + 1) ∷ [] else not_yet_line line ∷ []
+    if nat_lt service.publishes limits.publishes then published_line line (service.publishes + 1) ∷ [] else refused_line line too_many_publishes ∷ []
 serves limits schema service (Ask line session viewer limit query) =
     reply_lines schema line service.publishes (reply_of schema service.published query viewer limit)
 serves limits schema service (NotYet line) = not_yet_line line ∷ []

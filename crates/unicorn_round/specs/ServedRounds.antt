@@ -1,36 +1,70 @@
 -- What serving the rounds of a script gives.
-use Rattle.std.specs.Prelude.{ℕ, true, ◌≡◌, ◌≤◌, ◌+◌, ◌++◌, List, [], length, Option}
+use Rattle.std.specs.Prelude.{ℕ, ◌≡◌, ◌≤◌, ◌+◌, ◌⊎◌, ◌++◌, List, [], length, count_by, Option}
 use Rattle.uni_base.specs.declared.limits.Limits.{Limits}
 use Rattle.uni_schema.specs.Schema.{Declarations}
 use Rattle.unicorn_round.specs.declared.item.Item.{Item}
+use Rattle.unicorn_round.specs.declared.status.Status.{Status}
+use Rattle.unicorn_round.specs.declared.status.Status.TheVariants.{Done, Usage, Schema, ReadFault, WriteFault, TooLong, Memory}
 use Rattle.unicorn_round.specs.Answers.{joined}
-use Rattle.unicorn_round.specs.Lines.{lines_of, text_of}
-use Rattle.unicorn_round.specs.Reading.{LineState, Gave}
-use Rattle.unicorn_round.specs.Rounds.{rounds_from}
+use Rattle.unicorn_round.specs.Items.{is_go}
+use Rattle.unicorn_round.specs.Lines.{text_of}
+use Rattle.unicorn_round.specs.Reading.{LineState, IsSpent}
+use Rattle.unicorn_round.specs.Rounds.{Passed, rounds_from, closed_from}
 use Rattle.unicorn_round.specs.Serial.{Serving, opening_service, served_all, serves_all}
-use Rattle.unicorn_round.specs.Writing.{Took}
+use Rattle.unicorn_round.specs.Writing.{Took, TookPrefix}
+
+-- the text of rounds that are answered line by line
+abbrev pub serial_text : Limits → Declarations → List (List Item) → List ℕ
+serial_text limits schema rounds = text_of (serves_all limits schema opening_service (joined rounds))
+
+-- rounds are those of lines that were passed, whatever follows
+pub record Splits (limits : Limits) (schema : Declarations) (first number : ℕ) (lines : List (List ℕ)) (rounds : List (List Item)) : Type 0 where
+  pub closed : length rounds ≡ count_by is_go lines
+  pub count : number ≡ first + length lines
+  pub split : (rest : List (List ℕ)) → rounds_from limits schema first 0 (lines ++ rest) ≡ rounds ++ rounds_from limits schema number 0 rest
 
 -- some first rounds were read, answered and written; the line after them has a number
 pub record RoundsServed (limits : Limits) (schema : Declarations) (service : Serving) (before now : LineState) (left_before left_now taken_before taken_now : Option (List ℕ)) (first number : ℕ) : Type 0 where
+  pub lines : List (List ℕ)
+  pub passed : Passed before now left_before left_now lines
   pub rounds : List (List Item)
-  pub more : List ℕ
-  pub gave : Gave left_before more left_now
-  pub taken : now.taken ≡ before.taken + length more
-  pub limit : now.limit ≡ before.limit
-  pub stays : before.ended ≡ true → now.ended ≡ true
-  pub spent : before.ended ≡ true → more ≡ []
-  pub follow : (x : List ℕ) → (now.ended ≡ true → x ≡ [])
-      → rounds_from limits schema first (lines_of (before.ahead ++ (more ++ x))) ≡ rounds ++ rounds_from limits schema number (lines_of (now.ahead ++ x))
-  pub bytes : number + length now.ahead ≤ first + (length before.ahead + length more)
+  pub splits : Splits limits schema first number lines rounds
   pub served : service ≡ record { limits = limits; schema = schema; at = served_all limits schema opening_service (joined rounds) }
-  pub written : Took taken_before (text_of (serves_all limits schema opening_service (joined rounds))) taken_now
+  pub written : Took taken_before (serial_text limits schema rounds) taken_now
 
--- all rounds were, and the input was read to its end
-pub record AllServed (limits : Limits) (schema : Declarations) (before after : LineState) (left_before left_after taken_before taken_after : Option (List ℕ)) (first : ℕ) : Type 0 where
-  pub more : List ℕ
-  pub gave : Gave left_before more left_after
-  pub taken : after.taken ≡ before.taken + length more
-  pub limit : after.limit ≡ before.limit
-  pub spent : before.ended ≡ true → more ≡ []
-  pub ended : after.ended ≡ true
-  pub written : Took taken_before (text_of (serves_all limits schema opening_service (joined (rounds_from limits schema first (lines_of (before.ahead ++ more)))))) taken_after
+-- lines were passed, and rounds are the first ones of a script that begins with them: each has its `go`
+-- among the lines, or ends with the input
+pub record FirstRounds (limits : Limits) (schema : Declarations) (before after : LineState) (left_before left_after : Option (List ℕ)) (first : ℕ) (rounds : List (List Item)) : Type 0 where
+  pub lines : List (List ℕ)
+  pub passed : Passed before after left_before left_after lines
+  pub whole : (length rounds ≤ count_by is_go lines) ⊎ IsSpent after
+  pub begin : (rest : List (List ℕ)) → (IsSpent after → rest ≡ [])
+      → (more : List (List Item)) × (rounds_from limits schema first 0 (lines ++ rest) ≡ rounds ++ more)
+
+-- lines were passed, and these are the rounds of them that are closed
+pub record ClosedRounds (limits : Limits) (schema : Declarations) (before after : LineState) (left_before left_after : Option (List ℕ)) (first : ℕ) (rounds : List (List Item)) : Type 0 where
+  pub lines : List (List ℕ)
+  pub passed : Passed before after left_before left_after lines
+  pub closed : closed_from limits schema first 0 lines ≡ rounds
+
+-- lines were passed to the end of the input, and these are their rounds
+pub record AllRounds (limits : Limits) (schema : Declarations) (before after : LineState) (left_before left_after : Option (List ℕ)) (first : ℕ) (rounds : List (List Item)) : Type 0 where
+  pub lines : List (List ℕ)
+  pub passed : Passed before after left_before left_after lines
+  pub spent : IsSpent after
+  pub all : rounds_from limits schema first 0 lines ≡ rounds
+
+-- what was written when the rounds end so
+abbrev pub Served : Limits → Declarations → LineState → LineState → Option (List ℕ) → Option (List ℕ) → Option (List ℕ) → Option (List ℕ) → ℕ → Status → Type 0
+Served limits schema before after left_before left_after taken_before taken_after first Done =
+    (rounds : List (List Item)) × AllRounds limits schema before after left_before left_after first rounds × Took taken_before (serial_text limits schema rounds) taken_after
+Served limits schema before after left_before left_after taken_before taken_after first ReadFault =
+    (rounds : List (List Item)) × ClosedRounds limits schema before after left_before left_after first rounds × Took taken_before (serial_text limits schema rounds) taken_after
+Served limits schema before after left_before left_after taken_before taken_after first TooLong =
+    (rounds : List (List Item)) × ClosedRounds limits schema before after left_before left_after first rounds × Took taken_before (serial_text limits schema rounds) taken_after
+Served limits schema before after left_before left_after taken_before taken_after first Memory =
+    (rounds : List (List Item)) × FirstRounds limits schema before after left_before left_after first rounds × Took taken_before (serial_text limits schema rounds) taken_after
+Served limits schema before after left_before left_after taken_before taken_after first WriteFault =
+    (rounds : List (List Item)) × FirstRounds limits schema before after left_before left_after first rounds × TookPrefix taken_before (serial_text limits schema rounds) taken_after
+Served limits schema before after left_before left_after taken_before taken_after first Usage = ⊥
+Served limits schema before after left_before left_after taken_before taken_after first Schema = ⊥

@@ -1,7 +1,11 @@
 -- How a run ends.
-use Rattle.std.specs.Prelude.{ℕ}
+use Rattle.std.specs.Prelude.{ℕ, ◌≡◌, List, [], ◌∷◌, ◌++◌, Option, None, Some}
 use Rattle.unicorn_round.specs.declared.status.Status.{Status}
 use Rattle.unicorn_round.specs.declared.status.Status.TheVariants.{Done, Usage, Schema, ReadFault as ReadFailed, WriteFault, TooLong as PastLimit, Memory as NoMemory}
+use Rattle.uni_schema.specs.declared.refusal.SchemaRefusal.{SchemaRefusal}
+use Rattle.uni_schema.specs.declared.refusal.SchemaRefusal.TheVariants as header
+use Rattle.unicorn_round.specs.Printed.{not_yet_line, schema_line}
+use Rattle.unicorn_round.specs.Writing.{Took, TookPrefix}
 use Rattle.unicorn_round.specs.declared.lines.ScriptRefusal.{ScriptRefusal}
 use Rattle.unicorn_round.specs.declared.lines.ScriptRefusal.TheVariants.{ReadFault, TooLong, Memory}
 
@@ -20,3 +24,16 @@ abbrev pub status_of : ScriptRefusal → Status
 status_of ReadFault = ReadFailed
 status_of (TooLong count) = PastLimit
 status_of Memory = NoMemory
+
+-- the line for a refused header
+abbrev pub refusal_text : SchemaRefusal → Option (List ℕ)
+refusal_text (header.NotYet line) = Some (not_yet_line line ++ 10 ∷ [])
+refusal_text (header.NoBegin line) = Some (schema_line line 8 ++ 10 ∷ [])
+refusal_text header.Memory = None
+
+-- what was written for a refused header when the run ends so
+abbrev pub RefusalWritten : SchemaRefusal → Option (List ℕ) → Option (List ℕ) → Status → Type 0
+RefusalWritten refusal taken_before taken_after Schema = (text : List ℕ) × (refusal_text refusal ≡ Some text) × Took taken_before text taken_after
+RefusalWritten refusal taken_before taken_after WriteFault = (text : List ℕ) × (refusal_text refusal ≡ Some text) × TookPrefix taken_before text taken_after
+RefusalWritten refusal taken_before taken_after NoMemory = taken_after ≡ taken_before
+RefusalWritten refusal taken_before taken_after status = ⊥

@@ -1,22 +1,24 @@
-ghost use Rattle.std.specs.Prelude.{◌≡◌, ◌<◌, ◌++◌, All, length, IfOk, OnOk};
+ghost use Rattle.std.specs.Prelude.{◌≡◌, ◌<◌, ◌≤◌, ◌+◌, ◌++◌, ◌⊎◌, All, length, IfOk, IfErr, OnOk};
 ghost use Rattle.std.specs.Arc.{arc_value};
-ghost use Rattle.unicorn_round.specs.LineItems.{ItemIsDeclared};
+ghost use Rattle.unicorn_round.specs.LineItems.{ItemIsDeclared, LineIsDeclared};
+ghost use Rattle.unicorn_round.specs.RoundAnswers.{Answers, item_in};
 ghost use Rattle.unicorn_round.specs.Lines.{text_of};
 ghost use Rattle.uni_table.specs.Commands.{IsDeclared, after_commands};
 ghost use Rattle.unicorn_round.specs.declared.item.Item.TheVariants.{Change, Publish};
 ghost use Rattle.unicorn_round.specs.Printed.{reply_lines};
 ghost use Rattle.unicorn_round.specs.Queries.{reply_of};
-ghost use Rattle.unicorn_round.specs.Serial.{opening_service, served, serves};
+ghost use Rattle.unicorn_round.specs.Serial.{opening_service, served, serves, with_version};
 
-use crate::item::{Item, TermQuery};
-use crate::print::{push_not_yet, push_published, push_reply};
+use crate::item::{Item, RoundLine, TermQuery};
+use crate::print::{push_not_yet, push_published, push_refused, push_reply};
+use crate::refusal::PublishRefusal;
 use crate::show::{push_hits, visible};
 use std::alloc::{AllocError, Global};
 use std::marker::Model;
 use std::sync::Arc;
 use uni_base::{EntityId, Limits};
 use uni_schema::Schema;
-use uni_table::{Command, FeedRefusal, Table};
+use uni_table::{Command, Table};
 
 /// Answers lines in order. What is pending stays apart from the last version, and a publish takes
 /// the pending commands into it one by one, so that neither table is ever copied.
@@ -73,8 +75,24 @@ impl Service {
         self.pending.schema()
     }
 
-    /// Answers a line.
-    pub(crate) fn answer(&mut self, item: &Item, out: &mut Vec<u8>) -> Result<(), AllocError>
+    /// Answers a line of a round, if it counts.
+    #[tactic(auto, using(crate::proofs::RoundLoop::answers_none, crate::proofs::RoundLoop::answers_one))]
+    pub(crate) fn answer_line(
+        &mut self,
+        line: &RoundLine,
+        out: &mut Vec<u8>,
+    ) -> Result<(), AllocError>
+        requires { LineIsDeclared self.old.schema line.now }
+        ensures { OnOk result (Answers self.old self.new out.old.items out.new.items (item_in line.now)) }
+    {
+        match line {
+            RoundLine::Item(item) => self.answer(item, out),
+            RoundLine::Go | RoundLine::Skipped => Ok(()),
+        }
+    }
+
+    // Answers a line that counts.
+    fn answer(&mut self, item: &Item, out: &mut Vec<u8>) -> Result<(), AllocError>
         requires { ItemIsDeclared self.old.schema item.now }
         ensures served { OnOk result (self.new ≡ record self.old { at = served self.old.limits self.old.schema self.old.at item.now }) }
         ensures written { OnOk result (out.new.items ≡ out.old.items ++ text_of (serves self.old.limits self.old.schema self.old.at item.now)) }
@@ -104,23 +122,45 @@ impl Service {
                 self.batch.push(*command)?;
                 Ok(())
             }
-            Err(FeedRefusal::Memory) => Err(AllocError),
-            Err(_) => push_not_yet(out, line),
+            Err(refusal) => match refusal.code() {
+                Some(code) => push_refused(out, line, code),
+                None => Err(AllocError),
+            },
         }
     }
 
-    // A publish past the limit has no effect.
+    // A publish that is refused has no effect.
     fn publish(&mut self, line: u64, out: &mut Vec<u8>) -> Result<(), AllocError>
         ensures served { OnOk result (self.new ≡ record self.old { at = served self.old.limits self.old.schema self.old.at (Publish line) }) }
         ensures written { OnOk result (out.new.items ≡ out.old.items ++ text_of (serves self.old.limits self.old.schema self.old.at (Publish line))) }
     {
-        if self.publishes >= self.limits.publishes {
-            return push_not_yet(out, line);
+        match self.make_version() {
+            Ok(n) => push_published(out, line, n),
+            Err(refusal) => match refusal.code() {
+                Some(code) => push_refused(out, line, code),
+                None => Err(AllocError),
+            },
         }
-        take_batch(&mut self.published, self.batch.as_slice())?;
+    }
+
+    // Takes what is pending into the last version, and gives the number of the new one. At the limit
+    // nothing changes.
+    fn make_version(&mut self) -> Result<u64, PublishRefusal>
+        ensures fewer { OnOk result (self.old.at.publishes < self.old.limits.publishes) }
+        ensures next { IfOk result (λ n. n ≡ self.old.at.publishes + 1) }
+        ensures ok { OnOk result (self.new ≡ record self.old { at = with_version self.old.schema self.old.at }) }
+        ensures refused { IfErr result (λ refusal. (refusal ≡ PublishRefusal.Memory)
+            ⊎ ((refusal ≡ PublishRefusal.TooMany self.old.at.publishes) × (self.old.limits.publishes ≤ self.old.at.publishes) × (self.new ≡ self.old))) }
+    {
+        if self.publishes >= self.limits.publishes {
+            return Err(PublishRefusal::TooMany(self.publishes));
+        }
+        if take_batch(&mut self.published, self.batch.as_slice()).is_err() {
+            return Err(PublishRefusal::Memory);
+        }
         self.batch.clear();
         self.publishes += 1;
-        push_published(out, line, self.publishes)
+        Ok(self.publishes)
     }
 
     // A query is answered at the last version: the first hits in rank order, and of these the ones
@@ -138,10 +178,19 @@ impl Service {
         ensures { OnOk result (out.new.items ≡ out.old.items
             ++ text_of (reply_lines self.now.schema line self.now.at.publishes (reply_of self.now.schema self.now.at.published query.now viewer limit))) }
     {
-        let seen = visible(self.alloc, &self.published, viewer, limit, query)?;
+        let version = self.version();
+        let seen = visible(self.alloc, version, viewer, limit, query)?;
         push_reply(out, line, self.publishes, seen.len())?;
-        push_hits(out, self.published.schema(), seen.as_slice())?;
+        push_hits(out, version.schema(), seen.as_slice())?;
         Ok(())
+    }
+
+    // The table of the last version.
+    fn version(&self) -> &Table
+        ensures contents { result.now.contents ≡ self.now.at.published }
+        ensures schema { result.now.schema ≡ self.now.schema }
+    {
+        &self.published
     }
 }
 

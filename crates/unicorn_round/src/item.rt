@@ -1,3 +1,7 @@
+ghost use Rattle.std.specs.Prelude.{◌≡◌, ◌<◌, ◌≤◌, ◌+◌, ◌^◌};
+ghost use Rattle.unicorn_round.specs.LineItems.{is_end};
+ghost use Rattle.unicorn_round.specs.Rounds.{counted_after};
+
 use uni_base::EntityId;
 use uni_table::Command;
 
@@ -22,4 +26,40 @@ pub enum Item {
     },
     /// A line of no form that is answered so far.
     NotYet(u64),
+}
+
+/// What a line of a round is.
+#[derive(Clone, Copy, Debug, PartialEq, Eq)]
+pub(crate) enum RoundLine {
+    /// The round's end.
+    Go,
+    /// An empty line or a remark, which is never answered and does not count.
+    Skipped,
+    /// A line that counts.
+    Item(Item),
+}
+
+impl RoundLine {
+    /// Whether it ends its round.
+    pub(crate) fn is_end(&self) -> bool
+        ensures { result ≡ is_end self.now }
+    {
+        match self {
+            RoundLine::Go => true,
+            RoundLine::Skipped | RoundLine::Item(_) => false,
+        }
+    }
+
+    /// How many lines of its round count after it, where so many did before it.
+    pub(crate) fn counted(&self, before: u64) -> u64
+        requires { before < 2 ^ 63 }
+        ensures count { result ≡ counted_after before self.now }
+        ensures few { result ≤ before + 1 }
+    {
+        match self {
+            RoundLine::Go => 0,
+            RoundLine::Skipped => before,
+            RoundLine::Item(_) => before + 1,
+        }
+    }
 }

@@ -12,6 +12,7 @@ mod open;
 mod print;
 mod program;
 mod read_item;
+mod refusal;
 mod round;
 mod serve;
 mod show;

@@ -120,10 +120,11 @@ impl LineReader {
     }
 
     // Reads once: what the limit leaves, at most, or one byte where it is used up.
-    #[tactic(auto, using(crate::proofs::ReadSteps::grew_nothing))]
+    #[tactic(auto, using(crate::proofs::ReadSteps::grew_nothing, crate::proofs::ReadSteps::past_limit))]
     fn read<S: Source>(&mut self, source: &mut S) -> Result<(), ScriptRefusal>
         requires in_limit { self.old.taken ≤ self.old.limit }
         requires open { self.old.ended ≡ false }
+        requires none { has_lf self.old.ahead ≡ false }
         ensures grew { Grew self.old self.new (S.left source.old) (S.left source.new) }
         ensures end { EndFits self.new (S.left source.new) }
         ensures progress { OnOk result ((self.new.ended ≡ true) ⊎ ((self.new.ended ≡ false) × (self.old.taken < self.new.taken))) }

@@ -1,6 +1,6 @@
 ghost use Rattle.std.specs.Prelude.{◌≡◌, ◌++◌, ◌∷◌, [], length, OnOk, codes, decimal};
 ghost use Rattle.unicorn_round.specs.Lines.{text_of};
-ghost use Rattle.unicorn_round.specs.Printed.{published_line, not_yet_line, reply_line, schema_line};
+ghost use Rattle.unicorn_round.specs.Printed.{published_line, refused_line, not_yet_line, reply_line, schema_line};
 
 use itoa::Buffer;
 use std::alloc::AllocError;
@@ -22,6 +22,18 @@ pub(crate) fn push_published(out: &mut Vec<u8>, line: u64, n: u64) -> Result<(),
     push_number(out, line)?;
     out.extend_from_slice(b" ")?;
     push_number(out, n)?;
+    out.extend_from_slice(b"\n")?;
+    Ok(())
+}
+
+/// `refused LINE CODE`
+pub(crate) fn push_refused(out: &mut Vec<u8>, line: u64, code: u32) -> Result<(), AllocError>
+    ensures { OnOk result (out.new.items ≡ out.old.items ++ text_of (refused_line line code ∷ [])) }
+{
+    out.extend_from_slice(b"refused ")?;
+    push_number(out, line)?;
+    out.extend_from_slice(b" ")?;
+    push_number(out, code as u64)?;
     out.extend_from_slice(b"\n")?;
     Ok(())
 }

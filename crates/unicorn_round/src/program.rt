@@ -1,8 +1,9 @@
-ghost use Rattle.std.specs.Prelude.{◌≡◌, ◌⊎◌, true, false};
+ghost use Rattle.std.specs.Prelude.{◌≡◌, true, false};
 ghost use Rattle.uni_base.specs.Streams.{Rose};
 ghost use Rattle.uni_base.specs.StandardLimits.{standard_limits};
 ghost use Rattle.unicorn_round.specs.Outcome.{Ran};
-ghost use Rattle.unicorn_round.specs.Words.{asks_to_serve};
+ghost use Rattle.unicorn_round.specs.Completeness.{Completes};
+ghost use Rattle.unicorn_round.specs.Words.{asks_to_serve, EndsForWords};
 
 use crate::chooser::Chooser;
 use crate::gate::Gate;
@@ -37,12 +38,18 @@ where
     ensures ran { asks_to_serve words.now ≡ true
         → Ran standard_limits (S.left source.old) (S.left source.new) (K.taken sink.old) (K.taken sink.new) result }
     ensures usage { result ≡ Status.Usage → asks_to_serve words.now ≡ false }
-    ensures refused { asks_to_serve words.now ≡ false
-        → (result ≡ Status.Usage) ⊎ (result ≡ Status.WriteFault) }
+    ensures refused { asks_to_serve words.now ≡ false → EndsForWords (K.taken sink.old) (K.taken sink.new) result }
+    ensures unread { asks_to_serve words.now ≡ false
+        → (S.left source.new ≡ S.left source.old) × (S.faults source.new ≡ S.faults source.old) }
     ensures read_fault { result ≡ Status.ReadFault → Rose (S.faults source.old) (S.faults source.new) }
     ensures write_fault { result ≡ Status.WriteFault → Rose (K.faults sink.old) (K.faults sink.new) }
     ensures source_quiet { result ≡ Status.Done → S.faults source.new ≡ S.faults source.old }
     ensures sink_quiet { result ≡ Status.Done → K.faults sink.new ≡ K.faults sink.old }
+
+    // Words that are taken, a script within its limit under a header without fault, and no failed read
+    // or write: then all is answered, but for want of memory.
+    ensures complete { asks_to_serve words.now ≡ true
+        → Completes standard_limits (S.left source.old) (S.faults source.old) (S.faults source.new) (K.faults sink.old) (K.faults sink.new) result }
 {
     if !asks_to_serve(words) {
         return match write_all(sink, USAGE) {

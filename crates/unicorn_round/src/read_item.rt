@@ -1,16 +1,61 @@
 ghost use Rattle.std.specs.Prelude.{◌≡◌, ◌<◌, length, IfSome};
 ghost use Rattle.uni_table.specs.Commands.{IsDeclared};
-ghost use Rattle.unicorn_round.specs.LineItems.{ItemIsDeclared};
+ghost use Rattle.unicorn_round.specs.LineItems.{ItemIsDeclared, LineIsDeclared};
 ghost use Rattle.uni_base.specs.StandardLimits.{IsWithinStandard};
-ghost use Rattle.unicorn_round.specs.Items.{vertical_named, type_named, entity_line, edge_line, query_text, ask_line, item_with, item_of};
+ghost use Rattle.unicorn_round.specs.Items.{vertical_named, type_named, entity_line, edge_line, query_text, ask_line, item_with, item_of, is_skipped, counted_item, LineIs};
 
-use crate::item::{Item, TermQuery};
+use crate::item::{Item, RoundLine, TermQuery};
 use uni_base::{EntityId, Limits, Rank, Word, cut_at, read_between, read_id};
 use uni_schema::Schema;
 use uni_table::{AudienceText, Command};
 
-/// What a line is that does not end its round.
-pub(crate) fn read_item(limits: &Limits, schema: &Schema, number: u64, line: &[u8]) -> Item
+/// What a line of a round is, before which so many of its round count.
+#[tactic(auto, unfolding(crate::specs::Items::line_of))]
+pub(crate) fn read_line(
+    limits: &Limits,
+    schema: &Schema,
+    number: u64,
+    before: u64,
+    line: &[u8],
+) -> RoundLine
+    requires { IsWithinStandard limits.now }
+    ensures line { LineIs limits.now schema.now number before line.now result }
+    ensures declared { LineIsDeclared schema.now result }
+{
+    if line == b"go".as_slice() {
+        RoundLine::Go
+    } else if is_skipped(line) {
+        RoundLine::Skipped
+    } else {
+        RoundLine::Item(read_counted(limits, schema, number, before, line))
+    }
+}
+
+// An empty line or a remark.
+fn is_skipped(line: &[u8]) -> bool
+    ensures { result ≡ is_skipped line.now }
+{
+    match line {
+        [] => true,
+        [first, ..] => *first == b'#',
+    }
+}
+
+// What a line is that counts: of no form, where it is too long or there were enough before it.
+fn read_counted(limits: &Limits, schema: &Schema, number: u64, before: u64, line: &[u8]) -> Item
+    requires { IsWithinStandard limits.now }
+    ensures item { result ≡ counted_item limits.now schema.now number before line.now }
+    ensures declared { ItemIsDeclared schema.now result }
+{
+    if before < limits.round && line.len() as u64 <= limits.line {
+        read_item(limits, schema, number, line)
+    } else {
+        Item::NotYet(number)
+    }
+}
+
+// What a line is by its form.
+fn read_item(limits: &Limits, schema: &Schema, number: u64, line: &[u8]) -> Item
     requires { IsWithinStandard limits.now }
     ensures item { result ≡ item_of limits.now schema.now number line.now }
     ensures declared { ItemIsDeclared schema.now result }

@@ -1,10 +1,12 @@
-ghost use Rattle.std.specs.Prelude.{◌≡◌, ◌<◌, ◌≤◌, ◌+◌, ◌^◌, ◌↔◌, ◌⊎◌, ◌≢◌, true, length};
+ghost use Rattle.std.specs.Prelude.{◌≡◌, ◌≤◌, ◌+◌, ◌^◌, length};
 ghost use Rattle.uni_base.specs.Streams.{Rose};
 ghost use Rattle.uni_base.specs.StandardLimits.{IsWithinStandard};
-ghost use Rattle.unicorn_round.specs.Reading.{EndFits, ReadMore};
-ghost use Rattle.unicorn_round.specs.ServedRounds.{AllServed};
+ghost use Rattle.unicorn_round.specs.Completeness.{Completes};
 ghost use Rattle.unicorn_round.specs.Outcome.{Ran};
-ghost use Rattle.unicorn_round.specs.Statuses.{status_of};
+ghost use Rattle.unicorn_round.specs.Reading.{EndFits};
+ghost use Rattle.unicorn_round.specs.ServedRounds.{Served};
+ghost use Rattle.unicorn_round.specs.Statuses.{status_of, RefusalWritten};
+ghost use Rattle.unicorn_round.specs.Stops.{StopsFor};
 
 use crate::chooser::Chooser;
 use crate::feed::Service;
@@ -23,7 +25,7 @@ use uni_schema::{Schema, SchemaRefusal};
 
 /// Answers the rounds of a script whose header was read, each written in one piece before the next
 /// one is read. The first line after the header has this number.
-#[tactic(auto, using(crate::proofs::ReadSteps::reads_nothing, crate::proofs::ReadSteps::reads_append, crate::proofs::ServeLoop::rounds_served_start))]
+#[tactic(auto, using(crate::proofs::ServeLoop::rounds_served_start, crate::proofs::ServeLoop::served_nothing))]
 pub(crate) fn serve_opened<S: Source, K: Sink>(
     alloc: Global,
     limits: &Limits,
@@ -38,15 +40,13 @@ pub(crate) fn serve_opened<S: Source, K: Sink>(
     requires standard { IsWithinStandard limits.now }
     requires standard_limit { reader.old.limit ≤ 2 ^ 36 }
     requires counted { first + length reader.old.ahead ≤ reader.old.taken + 1 }
-    ensures done { result ≡ Status.Done → AllServed limits.now schema reader.old reader.new (S.left source.old) (S.left source.new) (K.taken sink.old) (K.taken sink.new) first }
-    ensures read { ReadMore reader.old reader.new (S.left source.old) (S.left source.new) }
+    ensures served { Served limits.now schema reader.old reader.new (S.left source.old) (S.left source.new) (K.taken sink.old) (K.taken sink.new) first result }
     ensures end { EndFits reader.new (S.left source.new) }
-    ensures too_long { (result ≡ Status.TooLong) ↔ (reader.new.limit < reader.new.taken) }
+    ensures stops { StopsFor reader.new result }
     ensures read_fault { result ≡ Status.ReadFault → Rose (S.faults source.old) (S.faults source.new) }
     ensures write_fault { result ≡ Status.WriteFault → Rose (K.faults sink.old) (K.faults sink.new) }
     ensures source_quiet { result ≡ Status.Done → S.faults source.new ≡ S.faults source.old }
     ensures sink_quiet { result ≡ Status.Done → K.faults sink.new ≡ K.faults sink.old }
-    ensures others { (result ≡ Status.Done) ⊎ ((result ≡ Status.ReadFault) ⊎ ((result ≡ Status.WriteFault) ⊎ ((result ≡ Status.TooLong) ⊎ (result ≡ Status.Memory)))) }
 {
     let Ok(schema) = Arc::new(alloc, schema) else {
         return Status::Memory;
@@ -57,16 +57,17 @@ pub(crate) fn serve_opened<S: Source, K: Sink>(
     let mut number = first;
     loop {
         let mut text = Vec::new(alloc);
-        match answer_round(&mut service, limits, reader, source, number, &mut text) {
-            Ok(None) => return Status::Done,
-            Ok(Some(next)) => {
-                let Ok(()) = write_all(sink, text.as_slice()) else {
-                    return Status::WriteFault;
-                };
-                number = next;
-            }
+        let next = match answer_round(&mut service, limits, reader, source, number, &mut text) {
+            Ok(next) => next,
             Err(refusal) => return status_of(refusal),
+        };
+        if write_all(sink, text.as_slice()).is_err() {
+            return Status::WriteFault;
         }
+        let Some(next) = next else {
+            return Status::Done;
+        };
+        number = next;
     }
 }
 
@@ -131,15 +132,18 @@ where
     ensures write_fault { result ≡ Status.WriteFault → Rose (K.faults sink.old) (K.faults sink.new) }
     ensures source_quiet { result ≡ Status.Done → S.faults source.new ≡ S.faults source.old }
     ensures sink_quiet { result ≡ Status.Done → K.faults sink.new ≡ K.faults sink.old }
+
+    // A script within its limit under a header without fault, and no failed read or write: then all is
+    // answered, but for want of memory.
+    ensures complete { Completes limits (S.left source.old) (S.faults source.old) (S.faults source.new) (K.faults sink.old) (K.faults sink.new) result }
 {
     serve_in_order(alloc, &limits, source, sink)
 }
 
 // The line for a header that is refused: `schema LINE 8`, or `notyet LINE`.
 fn write_refusal<K: Sink>(alloc: Global, refusal: SchemaRefusal, sink: &mut K) -> Status
-    ensures schema { result ≡ Status.Schema → refusal ≢ SchemaRefusal.Memory }
+    ensures written { RefusalWritten refusal (K.taken sink.old) (K.taken sink.new) result }
     ensures write_fault { result ≡ Status.WriteFault → Rose (K.faults sink.old) (K.faults sink.new) }
-    ensures others { (result ≡ Status.Schema) ⊎ ((result ≡ Status.WriteFault) ⊎ (result ≡ Status.Memory)) }
 {
     let mut text = Vec::new(alloc);
     let printed = match refusal {

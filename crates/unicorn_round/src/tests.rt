@@ -1,12 +1,16 @@
 ghost use Rattle.uni_base.specs.StandardLimits.{IsWithinStandard};
 
-use crate::{FirstChooser, OpenGate, TurnChooser, run, serve_rounds};
+use crate::{FirstChooser, OpenGate, serve_rounds};
 use std::alloc::Global;
 use std::process::Abort;
 use std::sync::Wait;
 use std::test::Fail;
 use std::thread::Threads;
 use uni_base::{Limits, MemorySink, MemorySource, Rows, Text};
+
+mod faults;
+mod limits;
+mod words;
 
 // The lines 1 to 4, and the lines 5 to 11: four entities, and edges from one to the others.
 const HEADER: &str = "unicorn 1\nvertical user 1 1\ntype friend user user both index\nbegin\n";
@@ -119,16 +123,13 @@ fn what_is_not_answered_so_far_is_named(rt: HostRuntime) -> Result<(), Fail> {
             "publish\ngo\nask 9 1 10 (and friend:1)\n",
             "published 12 1\nnotyet 14\n",
         ),
-        // an edge to an unknown entity, and one from it
+        // a CR, a byte above 127, and a number of thirty digits
         (
-            "edge friend 1 4 public\nedge friend 4 1 public\nask 9 1 10 friend:1\n",
-            "notyet 12\nnotyet 13\nreply 14 at 0 hits 0\n",
+            "publish\r\né\nentity user 123456789012345678901234567890 1\npublish\n",
+            "notyet 12\nnotyet 13\nnotyet 14\npublished 15 1\n",
         ),
-        // a CR, a byte above 127, an empty line and a number of thirty digits
-        (
-            "publish\r\né\n\nentity user 123456789012345678901234567890 1\npublish\n",
-            "notyet 12\nnotyet 13\nnotyet 14\nnotyet 15\npublished 16 1\n",
-        ),
+        // a remark that does not begin its line, and a space in front of a word
+        (" # no remark\n publish\n", "notyet 12\nnotyet 13\n"),
     ];
     for (rest, want) in rows {
         serve_parts(&rt, rt.alloc(), &[HEADER, FEED, rest], (want, 0))?;
@@ -160,68 +161,6 @@ fn a_refused_header_ends_the_run(rt: HostRuntime) -> Result<(), Fail> {
     ];
     for (script, want) in rows {
         serve_parts(&rt, rt.alloc(), &[script], (want, 3))?;
-    }
-    Ok(())
-}
-
-#[test]
-fn a_read_that_fails(rt: HostRuntime) -> Result<(), Fail> {
-    let mut pieces = Vec::new(rt.alloc());
-    pieces.push(text(rt.alloc(), &[HEADER, FEED, "publish\ngo\n"])?)?;
-    pieces.push(text(rt.alloc(), &["ask 9 1 10 friend:1\n"])?)?;
-    let source = MemorySource::new(pieces, vec![in rt.alloc(); 3]?);
-    let sink = roomy(rt.alloc())?;
-    let want = ("published 12 1\n", 4);
-    serve(&rt, rt.alloc(), Limits::standard(), source, sink, want)
-}
-
-#[test]
-fn a_write_that_fails(rt: HostRuntime) -> Result<(), Fail> {
-    let source = whole(rt.alloc(), text(rt.alloc(), &[HEADER, FEED, ROUNDS])?)?;
-    let sink = MemorySink::new(rt.alloc(), 65_536, 10, vec![in rt.alloc(); 2]?)?;
-    let want = ("published ", 5);
-    serve(&rt, rt.alloc(), Limits::standard(), source, sink, want)
-}
-
-// The script has 235 bytes.
-#[test]
-fn a_script_that_is_too_long(rt: HostRuntime) -> Result<(), Fail> {
-    let limits = Limits {
-        script: 234,
-        ..Limits::standard()
-    };
-    let source = whole(rt.alloc(), text(rt.alloc(), &[HEADER, FEED, ROUNDS])?)?;
-    let sink = roomy(rt.alloc())?;
-    serve(
-        &rt,
-        rt.alloc(),
-        limits,
-        source,
-        sink,
-        ("published 12 1\n", 6),
-    )
-}
-
-#[test]
-fn words_of_the_command_line(rt: HostRuntime) -> Result<(), Fail> {
-    let usage = "usage: unicorn MODE [--workers N] [--seed N] [--people N]\n";
-    for (mode, want, number) in [("dance", usage, 2), ("serve", ANSWERS, 0)] {
-        let mut words = Vec::new(rt.alloc());
-        words.push(String::from_str(rt.alloc(), "unicorn")?)?;
-        words.push(String::from_str(rt.alloc(), mode)?)?;
-        let mut source = whole(rt.alloc(), text(rt.alloc(), &[HEADER, FEED, ROUNDS])?)?;
-        let mut sink = roomy(rt.alloc())?;
-        let status = run(
-            &rt,
-            rt.alloc(),
-            words.as_slice(),
-            &mut source,
-            &mut sink,
-            &TurnChooser,
-            &OpenGate,
-        );
-        assert_eq!(rt; sink.bytes(), want.as_bytes());
-        assert_eq!(rt; status.number(), number, "at {mode}");
     }
     Ok(())
 }

@@ -1,14 +1,13 @@
 -- some first rounds were served
 use Rattle.std.proofs.Common.{◌≡◌, ◌+◌, ◌-◌, ◌≤◌, length}
-use Rattle.unicorn_round.specs.Reading.{EndFits, ReadMore}
+use Rattle.unicorn_round.specs.Reading.{EndFits}
 use Rattle.unicorn_round.specs.ServedRounds.{RoundsServed}
 use Rattle.unicorn_round.proofs.serve.serve_opened.Given as goal
 
-abbrev pub invariant-loop-text : goal.invariant-loop-text
-invariant-loop-text g l = record {
+abbrev pub invariant-loop-next : goal.invariant-loop-next
+invariant-loop-next g l = record {
   rounds : RoundsServed l.limits l.fn.schema l.service l.fn.reader l.reader (g.S.Source.left l.fn.source) (g.S.Source.left l.source)
       (g.K.Sink.taken l.fn.sink) (g.K.Sink.taken l.sink) l.fn.first l.number;
-  read : ReadMore l.fn.reader l.reader (g.S.Source.left l.fn.source) (g.S.Source.left l.source);
   limits : l.limits ≡ l.service.limits;
   end : EndFits l.reader (g.S.Source.left l.source);
   in_limit : l.reader.taken ≤ l.reader.limit;
@@ -18,5 +17,5 @@ invariant-loop-text g l = record {
   sink_quiet : g.K.Sink.faults l.sink ≡ g.K.Sink.faults l.fn.sink;
 }
 
-abbrev pub decreases-loop-text : goal.decreases-loop-text
-decreases-loop-text g l = l.reader.limit + 1 + length l.reader.ahead - l.reader.taken
+abbrev pub decreases-loop-next : goal.decreases-loop-next
+decreases-loop-next g l = l.reader.limit + 1 + length l.reader.ahead - l.reader.taken
