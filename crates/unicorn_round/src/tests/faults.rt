@@ -108,6 +108,27 @@ fn each_write_fails_in_turn(rt: HostRuntime) -> Result<(), Fail> {
     Ok(())
 }
 
+// The script in two pieces; the third read finds the end, or fails.
+#[test]
+fn the_end_of_the_input_cannot_be_read(rt: HostRuntime) -> Result<(), Fail> {
+    for (fails, want, number) in [(3, "published 12 1\n", 4), (4, ANSWERS, 0)] {
+        let mut pieces = Vec::new(rt.alloc());
+        pieces.push(text(rt.alloc(), &[HEADER, FEED, "publish\ngo\n"])?)?;
+        pieces.push(text(rt.alloc(), &["ask 9 1 10 friend:1\n"])?)?;
+        let source = MemorySource::new(pieces, vec![in rt.alloc(); fails]?);
+        let sink = roomy(rt.alloc())?;
+        serve(
+            &rt,
+            rt.alloc(),
+            Limits::standard(),
+            source,
+            sink,
+            (want, number),
+        )?;
+    }
+    Ok(())
+}
+
 // After a failed write nothing is read: the second read would fail too.
 #[test]
 fn a_write_that_fails_ends_the_reading(rt: HostRuntime) -> Result<(), Fail> {
