@@ -16,15 +16,15 @@ invariant_of-self-2 c =
     let schema = c.self.inside.schema.value in
     let old : Contents = record { entities = c.self.inside.entities.entries; edges = c.self.inside.edges.entries } in
     let edge : EdgeRef = record { type_no = c.args.type_no; key = c.in-Some.key; target = c.args.target } in
-    let taken : refuses_edge c.self.inside.limits old c.type_def.result.now edge ≡ None =
-    subst (λ (t : TableState). refuses_edge t.limits t.contents c.type_def.result.now edge ≡ None) (sym c.self.view_is)
+    let taken : refuses_edge c.self.inside.limits old c.type_def-type_def.result.now edge ≡ None =
+    subst (λ (t : TableState). refuses_edge t.limits t.contents c.type_def-type_def.result.now edge ≡ None) (sym c.self.view_is)
     (sym c.refuses_edge.ensures ∙ c.in_default-refuses_edge.is) in
-    let declared : type_at schema c.args.type_no ≡ Some c.type_def.result.now =
-    subst (λ (s : Declarations). type_at s c.args.type_no ≡ Some c.type_def.result.now) c.deref.ensures c.type_def.ensures in
+    let declared : type_at schema c.args.type_no ≡ Some c.type_def-type_def.result.now =
+    subst (λ (s : Declarations). type_at s c.args.type_no ≡ Some c.type_def-type_def.result.now) c.deref.ensures c.type_def-type_def.ensures in
     let stands : target_stands schema old edge ≡ true =
-    rw declared (refuses_edge-target c.self.inside.limits old c.type_def.result.now edge taken) in
+    rw declared (refuses_edge-target c.self.inside.limits old c.type_def-type_def.result.now edge taken) in
     record {
-      targets = rw c.in-Ok.ensures.entries (list_all-insert_entry edge_cmp (target_stands schema old) edge c.audience_of.result c.self.inside.edges.entries stands c.self.invariant.targets);
+      targets = rw c.in-Ok.ensures.entries (list_all-insert_entry edge_cmp (target_stands schema old) edge _ c.self.inside.edges.entries stands c.self.invariant.targets);
       entities = c.self.invariant.entities;
       edges = c.in-Ok.ensures.ordered;
     }
