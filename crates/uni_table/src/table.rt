@@ -33,8 +33,8 @@ impl Model for Table {
 }
 
 impl Table {
-    ghost use Rattle.uni_table.specs.Contents.{empty, entity_at, audience_at, is_in};
-    ghost use Rattle.uni_table.specs.Commands.{next, refuses, refuses_entity, refuses_edge, source_stands, IsDeclared};
+    ghost use Rattle.uni_table.specs.Contents.{empty, entity_at, audience_at, is_in, source_stands};
+    ghost use Rattle.uni_table.specs.Commands.{next, refuses, refuses_entity, refuses_edge, IsDeclared};
     ghost use Rattle.uni_schema.specs.Schema.{key_of};
     ghost use Rattle.uni_table.specs.declared.command.Command.TheVariants.{Entity, Edge};
 
