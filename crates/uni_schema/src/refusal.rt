@@ -1,3 +1,6 @@
+ghost use Rattle.std.specs.Prelude.{◌≡◌};
+ghost use Rattle.uni_schema.specs.Refusals.{code_of};
+
 use std::alloc::AllocError;
 
 /// Why a header is refused, with the line that shows it.
@@ -13,7 +16,9 @@ pub enum SchemaRefusal {
 
 impl SchemaRefusal {
     /// The code that is printed for the refusal, where it has one.
-    pub fn code(self) -> Option<u32> {
+    pub fn code(self) -> Option<u32>
+        ensures { result ≡ code_of self }
+    {
         match self {
             SchemaRefusal::NoBegin(_) => Some(8),
             SchemaRefusal::NotYet(_) | SchemaRefusal::Memory => None,

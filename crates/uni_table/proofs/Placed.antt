@@ -14,15 +14,18 @@ use Rattle.uni_table.proofs.Compared.{less_from}
 use Rattle.uni_table.proofs.DocKeys.{doc_total}
 use Rattle.uni_table.proofs.Filters.{or_swap}
 
-sorted_nil : {K : Type 0} (cmp : K → K → Ordering) → IsStrictlySortedBy cmp []
+-- no keys are in order
+pub sorted_nil : {K : Type 0} (cmp : K → K → Ordering) → IsStrictlySortedBy cmp []
 unfolding IsStrictlySortedBy
 sorted_nil cmp = tt
 
-sorted_cons : {K : Type 0} (cmp : K → K → Ordering) (k : K) (ks : List K) → AllByRecursion (λ x. cmp k x ≡ Less) ks → IsStrictlySortedBy cmp ks → IsStrictlySortedBy cmp (k ∷ ks)
+-- a key below all of keys in order stands before them
+pub sorted_cons : {K : Type 0} (cmp : K → K → Ordering) (k : K) (ks : List K) → AllByRecursion (λ x. cmp k x ≡ Less) ks → IsStrictlySortedBy cmp ks → IsStrictlySortedBy cmp (k ∷ ks)
 unfolding IsStrictlySortedBy
 sorted_cons cmp k ks below sorted = (below, sorted)
 
-all_wider : {K : Type 0} (P Q : K → Type 0) → ((k : K) → P k → Q k) → (ks : List K) → AllByRecursion P ks → AllByRecursion Q ks
+-- what is so of each key under one fact is under a wider one
+pub all_wider : {K : Type 0} (P Q : K → Type 0) → ((k : K) → P k → Q k) → (ks : List K) → AllByRecursion P ks → AllByRecursion Q ks
 all_wider P Q wider [] all = tt
 all_wider P Q wider (k ∷ ks) all = (wider k all.0, all_wider P Q wider ks all.1)
 

@@ -36,7 +36,7 @@ use Rattle.uni_table.proofs.TargetsOf.{targets_of, among_targets, targets_apart}
 use Rattle.uni_table.proofs.RankedIn.{fits, among_ranked, ranked_ascends}
 
 -- the target of an edge that is there is an entity of the type's target vertical
-edge_leads : (schema : Declarations) (table : Contents) (number : ℕ) (key : Key) (type_def : TypeDef) → type_at schema number ≡ Some type_def
+pub edge_leads : (schema : Declarations) (table : Contents) (number : ℕ) (key : Key) (type_def : TypeDef) → type_at schema number ≡ Some type_def
     → list_all (λ e. target_stands schema table e.0) table.edges ≡ true → (id : ℕ) → has_edge table (edge_to number key id) ≡ true → is_in table type_def.target id ≡ true
 edge_leads schema table number key type_def declared stands id there =
     found_passes (is_at (edge_cmp (edge_to number key id))) (target_stands schema table) (is_in table type_def.target id ≡ true) here (keys_of table.edges)

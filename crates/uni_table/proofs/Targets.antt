@@ -1,4 +1,4 @@
--- Targets stay entities of their verticals.
+-- The ends of edges stay entities of their verticals.
 use Rattle.std.proofs.Common.{◌≡◌, ℕ, ◌==◌, Bool, true, false, List, [], ◌∷◌, Option, None, Some, cond, refl, sym, ◌∙◌, is_some, if◌then◌else◌, nat_lt, length, eq-eqb, subst, not, ◌||◌}
 use Rattle.std.proofs.lemmas.Bool.{eqb-true}
 use Rattle.std.specs.declared.cmp.Ordering.{Ordering}
@@ -8,16 +8,20 @@ use Rattle.std.specs.List.{list_all}
 use Rattle.std.specs.Option.{option_map_or}
 use Rattle.std.specs.BTreeMap.{insert_entry, is_at}
 use Rattle.uni_base.specs.declared.edge.EdgeRef.{EdgeRef}
+use Rattle.uni_base.specs.declared.edge.Key.{Key}
+use Rattle.uni_base.specs.declared.edge.Key.TheVariants.{Id, Word}
 use Rattle.uni_schema.specs.Schema.{Declarations, type_at}
+use Rattle.uni_schema.specs.declared.schema.Origin.{Origin}
+use Rattle.uni_schema.specs.declared.schema.Origin.TheVariants.{Vertical, Words}
 use Rattle.uni_schema.specs.declared.schema.TypeDef.{TypeDef}
 use Rattle.uni_table.specs.declared.command.EntityRow.{EntityRow}
 use Rattle.uni_base.specs.declared.entity.Rank.{Rank}
 use Rattle.uni_base.specs.declared.limits.Limits.{Limits}
 use Rattle.uni_table.specs.declared.refusal.FeedRefusal.TheVariants.{NoSource, NoTarget, Elsewhere, TableFull}
-use Rattle.uni_table.specs.Commands.{refuses_entity, refuses_edge, source_stands}
+use Rattle.uni_table.specs.Commands.{refuses_entity, refuses_edge}
 use Rattle.uni_table.proofs.Compared.{same_number}
 use Rattle.uni_table.proofs.Filters.{both_true}
-use Rattle.uni_table.specs.Contents.{Contents, entity_at, is_in, has_edge, target_stands}
+use Rattle.uni_table.specs.Contents.{Contents, entity_at, is_in, has_edge, source_stands, key_stands, target_stands}
 
 -- a test of keys holds of the entries with one more
 pub list_all-insert_entry : {K X : Type 0} (cmp : K → K → Ordering) (test : K → Bool) (k : K) (v : X) (es : List (K × X))
@@ -48,6 +52,22 @@ target_stands-kept schema old new kept edge stands = by (type_at schema edge.typ
         → option_map_or (λ type_def. is_in new type_def.target edge.target) o false ≡ true
     by None h = h
     by (Some type_def) h = kept type_def.target edge.target h
+
+-- so does what edges may start at
+source_stands-kept : (old new : Contents) → ((vertical id : ℕ) → is_in old vertical id ≡ true → is_in new vertical id ≡ true)
+    → (origin : Origin) (key : Key) → source_stands old origin key ≡ true → source_stands new origin key ≡ true
+source_stands-kept old new kept Words key stands = refl
+source_stands-kept old new kept (Vertical vertical) (Id id) stands = kept vertical id stands
+source_stands-kept old new kept (Vertical vertical) (Word text) stands = cc
+
+pub key_stands-kept : (schema : Declarations) (old new : Contents) → ((vertical id : ℕ) → is_in old vertical id ≡ true → is_in new vertical id ≡ true)
+    → (edge : EdgeRef) → key_stands schema old edge ≡ true → key_stands schema new edge ≡ true
+key_stands-kept schema old new kept edge stands = by (type_at schema edge.type_no) stands
+  where
+    by : (o : Option TypeDef) → option_map_or (λ type_def. source_stands old type_def.origin edge.key) o false ≡ true
+        → option_map_or (λ type_def. source_stands new type_def.origin edge.key) o false ≡ true
+    by None h = h
+    by (Some type_def) h = source_stands-kept old new kept type_def.origin edge.key h
 
 -- the vertical of a row that is there
 same_row : (vertical other at : ℕ) (b : Bool) → (at == vertical) ≡ b → (if b then None else Some Elsewhere) ≡ None → (at == other) ≡ true → (vertical == other) ≡ true
@@ -80,14 +100,14 @@ is_in-insert old new vertical id rank updated same other q stands = by (is_at (n
     by true e = rw (updated q, e) (same other (subst (λ x. is_in old other x ≡ true) (sym (same_number id q e)) stands))
     by false e = rw (updated q, e) stands
 
--- the target of an edge that is not refused stands
-pub refuses_edge-target : (limits : Limits) (table : Contents) (type_def : TypeDef) (edge : EdgeRef) → refuses_edge limits table type_def edge ≡ None
-    → is_in table type_def.target edge.target ≡ true
-refuses_edge-target limits table type_def edge taken =
+-- both ends of an edge that is not refused stand
+pub refuses_edge-ends : (limits : Limits) (table : Contents) (type_def : TypeDef) (edge : EdgeRef) → refuses_edge limits table type_def edge ≡ None
+    → (source_stands table type_def.origin edge.key ≡ true) × (is_in table type_def.target edge.target ≡ true)
+refuses_edge-ends limits table type_def edge taken =
     by (source_stands table type_def.origin edge.key) (is_in table type_def.target edge.target) (has_edge table edge || nat_lt (length table.edges) limits.edges) taken
   where
     by : (source target room : Bool)
-        → (if not source then Some NoSource else (if not target then Some NoTarget else (if room then None else Some TableFull))) ≡ None → target ≡ true
+        → (if not source then Some NoSource else (if not target then Some NoTarget else (if room then None else Some TableFull))) ≡ None → (source ≡ true) × (target ≡ true)
     by false target room e = cc
-    by true true room e = refl
+    by true true room e = (refl, refl)
     by true false room e = cc

@@ -1,5 +1,5 @@
 -- What a command does to a table, and which ones are refused.
-use Rattle.std.specs.Prelude.{ℕ, Bool, true, false, ◌<◌, not, ◌||◌, if◌then◌else◌, List, [], ◌∷◌, length, Option, None, Some, is_some, nat_lt}
+use Rattle.std.specs.Prelude.{ℕ, ◌≡◌, ◌<◌, not, ◌||◌, if◌then◌else◌, List, [], ◌∷◌, length, Option, None, Some, is_some, nat_lt}
 use Rattle.std.specs.Option.{option_map, option_map_or, option_and_then}
 use Rattle.std.specs.Ordering.{nat_cmp}
 use Rattle.std.specs.BTreeMap.{insert_entry}
@@ -8,13 +8,9 @@ use Rattle.uni_base.specs.declared.edge.Audience.{Audience}
 use Rattle.uni_base.specs.declared.edge.Audience.TheVariants.{Public as PublicAudience, Only as OnlyAudience}
 use Rattle.uni_base.specs.declared.limits.Limits.{Limits}
 use Rattle.uni_base.specs.EdgeOrder.{edge_cmp}
-use Rattle.uni_base.specs.declared.edge.Key.{Key}
-use Rattle.uni_base.specs.declared.edge.Key.TheVariants.{Id, Word}
 use Rattle.uni_schema.specs.Schema.{Declarations, type_at, key_of}
-use Rattle.uni_schema.specs.declared.schema.Origin.{Origin}
-use Rattle.uni_schema.specs.declared.schema.Origin.TheVariants.{Vertical, Words}
 use Rattle.uni_schema.specs.declared.schema.TypeDef.{TypeDef}
-use Rattle.uni_table.specs.Contents.{Contents, empty, entity_at, is_in, has_edge}
+use Rattle.uni_table.specs.Contents.{Contents, empty, entity_at, is_in, has_edge, source_stands}
 use Rattle.uni_table.specs.declared.command.AudienceText.{AudienceText}
 use Rattle.uni_table.specs.declared.command.AudienceText.TheVariants.{Public, Only}
 use Rattle.uni_table.specs.declared.command.Command.{Command}
@@ -40,13 +36,6 @@ with_edge table edge audience = record table { edges = insert_entry edge_cmp tab
 abbrev pub next : Declarations → Contents → Command → Contents
 next schema table (Entity vertical id rank) = record table { entities = insert_entry nat_cmp table.entities id (record { vertical = vertical; rank = rank }) }
 next schema table (Edge number key target audience) = option_map_or (λ edge. with_edge table edge (audience_of audience)) (edge_of schema number key target) table
-
--- whether edges may start at a key: at any word where they start at words, else at the entities of the
--- vertical
-abbrev pub source_stands : Contents → Origin → Key → Bool
-source_stands table Words key = true
-source_stands table (Vertical vertical) (Id id) = is_in table vertical id
-source_stands table (Vertical vertical) (Word text) = false
 
 -- why an edge of a type is refused, the first reason in the order of the codes, if it is
 abbrev pub refuses_edge : Limits → Contents → TypeDef → EdgeRef → Option FeedRefusal
@@ -86,3 +75,19 @@ after_batches schema table (batch ∷ batches) = after_batches schema (after_com
 -- the table after a journal: all its commands in order, from the empty table
 abbrev pub fold_of : Declarations → List (List Command) → Contents
 fold_of schema journal = after_batches schema empty journal
+
+-- no command of a list is refused at its place, from a table on
+abbrev pub NoneRefused : Declarations → Limits → Contents → List Command → Type 0
+NoneRefused schema limits table [] = Unit {0}
+NoneRefused schema limits table (command ∷ commands) =
+    (refuses schema limits table command ≡ None) × NoneRefused schema limits (next schema table command) commands
+
+-- no command of all batches is refused at its place, from a table on
+abbrev pub NoneOfBatchesRefused : Declarations → Limits → Contents → List (List Command) → Type 0
+NoneOfBatchesRefused schema limits table [] = Unit {0}
+NoneOfBatchesRefused schema limits table (batch ∷ batches) =
+    NoneRefused schema limits table batch × NoneOfBatchesRefused schema limits (after_commands schema table batch) batches
+
+-- a journal: batches of commands, none of which is refused at its place
+abbrev pub IsJournal : Declarations → Limits → List (List Command) → Type 0
+IsJournal schema limits journal = NoneOfBatchesRefused schema limits empty journal

@@ -7,7 +7,7 @@ use Rattle.std.specs.Ordering.{nat_cmp}
 use Rattle.uni_base.specs.declared.limits.Limits.{Limits}
 use Rattle.uni_base.specs.EdgeOrder.{edge_cmp}
 use Rattle.uni_schema.specs.Schema.{Declarations}
-use Rattle.uni_table.specs.Contents.{Contents, entity_at, target_stands}
+use Rattle.uni_table.specs.Contents.{Contents, entity_at, key_stands, target_stands}
 
 -- a table with the schema and the limits that it was made with
 pub record TableState : Type 0 where
@@ -15,13 +15,19 @@ pub record TableState : Type 0 where
   pub limits : Limits
   pub contents : Contents
 
+-- each edge starts where edges of its type may
+abbrev pub KeysStand : Declarations → Contents → Type 0
+KeysStand schema table = list_all (λ e. key_stands schema table e.0) table.edges ≡ true
+
 -- each edge leads to an entity of its type's target vertical
 abbrev pub TargetsStand : Declarations → Contents → Type 0
 TargetsStand schema table = list_all (λ e. target_stands schema table e.0) table.edges ≡ true
 
--- what a table keeps: each edge leads to an entity of its type's target vertical, and the rows stand in
--- order, each key once
+-- what a table keeps: each edge starts at an entity of its type's source vertical, or at a word where its
+-- type has none, and leads to an entity of its type's target vertical; and the rows stand in order, each
+-- key once
 pub record IsKept (schema : Declarations) (table : Contents) : Type 0 where
+  pub keys : KeysStand schema table
   pub targets : TargetsStand schema table
   pub entities : IsStrictlySortedBy nat_cmp (keys_of table.entities)
   pub edges : IsStrictlySortedBy edge_cmp (keys_of table.edges)

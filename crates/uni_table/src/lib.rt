@@ -3,6 +3,7 @@
 
 mod command;
 pub mod examples;
+pub mod laws;
 mod refusal;
 mod table;
 #[cfg(test)]

@@ -33,8 +33,8 @@ impl Model for Table {
 }
 
 impl Table {
-    ghost use Rattle.uni_table.specs.Contents.{empty, entity_at, audience_at, is_in};
-    ghost use Rattle.uni_table.specs.Commands.{next, refuses, refuses_entity, refuses_edge, source_stands, IsDeclared};
+    ghost use Rattle.uni_table.specs.Contents.{empty, entity_at, audience_at, is_in, source_stands};
+    ghost use Rattle.uni_table.specs.Commands.{next, refuses, refuses_entity, refuses_edge, IsDeclared};
     ghost use Rattle.uni_schema.specs.Schema.{key_of};
     ghost use Rattle.uni_table.specs.declared.command.Command.TheVariants.{Entity, Edge};
 
@@ -100,7 +100,7 @@ impl Table {
             ⊎ (refuses self.old.schema self.old.limits self.old.contents (Edge type_no text.now target audience) ≡ Some refusal)) }
         ensures err { OnErr result (self.new ≡ self.old) }
     {
-        let type_def = *self.schema.type_def(type_no);
+        let type_def = self.schema.type_def(type_no);
         let Some(key) = self.schema.key_of(type_no, text) else {
             return Err(FeedRefusal::NoSource);
         };
@@ -109,7 +109,7 @@ impl Table {
             key,
             target,
         };
-        if let Some(refusal) = self.refuses_edge(&type_def, &edge) {
+        if let Some(refusal) = self.refuses_edge(type_def, &edge) {
             return Err(refusal);
         }
         let Ok(_) = self.edges.insert(edge, audience_of(audience)) else {
@@ -122,16 +122,11 @@ impl Table {
     fn refuses_entity(&self, vertical: u16, id: EntityId) -> Option<FeedRefusal>
         ensures { result ≡ refuses_entity self.now.limits self.now.contents vertical id }
     {
-        if self.entity(id).is_some() {
-            if self.is_in(vertical, id) {
-                None
-            } else {
-                Some(FeedRefusal::Elsewhere)
-            }
-        } else if self.entities() < self.limits.entities {
-            None
-        } else {
-            Some(FeedRefusal::TableFull)
+        match self.entity(id) {
+            Some(row) if row.vertical == vertical => None,
+            Some(_) => Some(FeedRefusal::Elsewhere),
+            None if self.entities() < self.limits.entities => None,
+            None => Some(FeedRefusal::TableFull),
         }
     }
 
@@ -143,7 +138,7 @@ impl Table {
             Some(FeedRefusal::NoSource)
         } else if !self.is_in(type_def.target, edge.target) {
             Some(FeedRefusal::NoTarget)
-        } else if self.audience(edge).is_some() || self.edges() < self.limits.edges {
+        } else if self.edges() < self.limits.edges || self.audience(edge).is_some() {
             None
         } else {
             Some(FeedRefusal::TableFull)

@@ -1,14 +1,13 @@
-use Rattle.std.proofs.Common.{◌≡◌, List, Some, None, ap, sym, subst, ◌∙◌, true}
+use Rattle.std.proofs.Common.{◌≡◌, List, Some, None, ap, sym, subst, ◌∙◌}
 use Rattle.std.specs.Option.{option_map}
 use Rattle.uni_base.specs.declared.edge.EdgeRef.{EdgeRef}
 use Rattle.uni_base.specs.declared.edge.Key.{Key}
 use Rattle.uni_base.specs.declared.edge.Audience.{Audience}
-use Rattle.uni_base.specs.EdgeOrder.{edge_cmp}
 use Rattle.uni_schema.specs.Schema.{Declarations, type_at, key_of}
-use Rattle.uni_table.specs.Contents.{Contents, target_stands}
+use Rattle.uni_table.specs.Contents.{Contents}
 use Rattle.uni_table.specs.Commands.{refuses_edge, edge_of}
 use Rattle.uni_table.specs.TableState.{TableState}
-use Rattle.uni_table.proofs.Targets.{list_all-insert_entry, refuses_edge-target}
+use Rattle.uni_table.proofs.Kept.{edge_keeps}
 use Rattle.uni_table.proofs.table.Table.put_edge.Goals as goal
 
 pub invariant_of-self-2 : goal.invariant_of-self-2
@@ -16,18 +15,12 @@ invariant_of-self-2 c =
     let schema = c.self.inside.schema.value in
     let old : Contents = record { entities = c.self.inside.entities.entries; edges = c.self.inside.edges.entries } in
     let edge : EdgeRef = record { type_no = c.args.type_no; key = c.in-Some.key; target = c.args.target } in
-    let taken : refuses_edge c.self.inside.limits old c.type_def.result.now edge ≡ None =
-    subst (λ (t : TableState). refuses_edge t.limits t.contents c.type_def.result.now edge ≡ None) (sym c.self.view_is)
+    let taken : refuses_edge c.self.inside.limits old c.type_def-type_def.result.now edge ≡ None =
+    subst (λ (t : TableState). refuses_edge t.limits t.contents c.type_def-type_def.result.now edge ≡ None) (sym c.self.view_is)
     (sym c.refuses_edge.ensures ∙ c.in_default-refuses_edge.is) in
-    let declared : type_at schema c.args.type_no ≡ Some c.type_def.result.now =
-    subst (λ (s : Declarations). type_at s c.args.type_no ≡ Some c.type_def.result.now) c.deref.ensures c.type_def.ensures in
-    let stands : target_stands schema old edge ≡ true =
-    rw declared (refuses_edge-target c.self.inside.limits old c.type_def.result.now edge taken) in
-    record {
-      targets = rw c.in-Ok.ensures.entries (list_all-insert_entry edge_cmp (target_stands schema old) edge c.audience_of.result c.self.inside.edges.entries stands c.self.invariant.targets);
-      entities = c.self.invariant.entities;
-      edges = c.in-Ok.ensures.ordered;
-    }
+    let declared : type_at schema c.args.type_no ≡ Some c.type_def-type_def.result.now =
+    subst (λ (s : Declarations). type_at s c.args.type_no ≡ Some c.type_def-type_def.result.now) c.deref.ensures c.type_def-type_def.ensures in
+    rw c.in-Ok.ensures.entries (edge_keeps schema c.self.inside.limits old c.type_def-type_def.result.now edge _ declared taken c.self.invariant)
 
 pub returns-clause-ok : goal.returns-clause-ok
 returns-clause-ok c =
