@@ -1,5 +1,5 @@
 -- Lines that hold no LF are told by their text, and those of answers hold none.
-use Rattle.std.proofs.Common.{◌≡◌, ℕ, zero, suc, Bool, true, false, ◌&&◌, ◌||◌, ◌==◌, nat_lt, nat_le, if◌then◌else◌, List, [], ◌∷◌, ◌++◌, length, map, take, codes, Option, None, Some, IfSome, is_some, unwrap_or, filter_map, flat_map, option_map, option_and_then, slice_get, refl, sym, ◌∙◌, ap, subst, arith, append_assoc, ◌+◌}
+use Rattle.std.proofs.Common.{◌≡◌, ℕ, zero, suc, Bool, true, false, ◌&&◌, ◌||◌, ◌==◌, nat_lt, nat_le, if◌then◌else◌, List, [], ◌∷◌, ◌++◌, length, map, take, codes, Option, None, Some, IfSome, unwrap_or, filter_map, flat_map, option_map, option_and_then, slice_get, refl, sym, ◌∙◌, ap, subst, arith, append_assoc, ◌+◌}
 use Rattle.std.specs.Option.{option_map_or}
 use Rattle.std.specs.List.{list_all, cons_option, AllByRecursion}
 use Rattle.std.specs.Fmt.{decimal}

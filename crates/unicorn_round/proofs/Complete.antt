@@ -1,5 +1,5 @@
 -- A run that meets no fault goes to its end.
-use Rattle.std.proofs.Common.{◌≡◌, ℕ, zero, suc, ◌+◌, ◌==◌, ◌⊎◌, inl, inr, Bool, true, false, List, [], ◌∷◌, ◌++◌, length, Option, None, Some, sym, ◌∙◌, ap, subst, refl, arith, length-append, append-nil}
+use Rattle.std.proofs.Common.{◌≡◌, ℕ, zero, suc, ◌+◌, ◌==◌, inl, inr, Bool, true, false, List, [], ◌∷◌, ◌++◌, length, Option, None, Some, sym, ◌∙◌, ap, subst, refl, arith, length-append, append-nil}
 use Rattle.std.specs.Prelude.{if◌then◌else◌}
 use Rattle.uni_base.specs.Streams.{Rose}
 use Rattle.uni_base.specs.declared.limits.Limits.{Limits}
@@ -7,7 +7,7 @@ use Rattle.uni_schema.specs.Schema.{Declarations}
 use Rattle.uni_schema.specs.Header.{HeaderState, Opening, opens, not_yet, short, declares, opening_from, opening_of}
 use Rattle.unicorn_round.specs.declared.status.Status.{Status}
 use Rattle.unicorn_round.specs.declared.status.Status.TheVariants.{Done, Usage, Schema, ReadFault, WriteFault, TooLong, Memory}
-use Rattle.unicorn_round.specs.Completeness.{Completes, IsServable}
+use Rattle.unicorn_round.specs.Completeness.{Completes}
 use Rattle.unicorn_round.specs.Lines.{lines_of, whole_lines, onto_first, onto_whole}
 use Rattle.unicorn_round.specs.Outcome.{Ran, header_fault, opening_so_far}
 use Rattle.unicorn_round.specs.Reading.{Gave, NoneLeft}

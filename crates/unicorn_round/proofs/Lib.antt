@@ -5,6 +5,7 @@ mod Complete
 mod Cuts
 mod Decimals
 mod Fronts
+mod Journals
 mod Names
 mod OpenSteps
 mod PassedSteps

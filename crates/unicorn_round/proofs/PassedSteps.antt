@@ -1,5 +1,5 @@
 -- Going past lines.
-use Rattle.std.proofs.Common.{◌≡◌, ℕ, ◌+◌, true, Some, None, List, [], ◌∷◌, ◌++◌, length, take, drop, Option, suc, sym, ◌∙◌, ap, refl, arith, add-one, length-append, append-nil}
+use Rattle.std.proofs.Common.{◌≡◌, ℕ, ◌+◌, Some, None, List, [], ◌∷◌, ◌++◌, length, take, drop, Option, suc, sym, ◌∙◌, ap, refl, arith, add-one, length-append, append-nil}
 use Rattle.std.proofs.lemmas.List.{append_assoc, take-append-drop}
 use Rattle.uni_base.specs.declared.limits.Limits.{Limits}
 use Rattle.uni_schema.specs.Schema.{Declarations}

@@ -1,5 +1,5 @@
 -- How a run ends, from how its parts do.
-use Rattle.std.proofs.Common.{◌≡◌, ℕ, ◌+◌, ◌-◌, ◌≤◌, ◌<◌, ◌⊎◌, inl, inr, Bool, true, false, List, [], ◌∷◌, ◌++◌, length, take, Option, None, Some, sym, ◌∙◌, ap, subst, refl, arith, length-append, append-nil}
+use Rattle.std.proofs.Common.{◌≡◌, ℕ, ◌+◌, ◌-◌, ◌≤◌, ◌<◌, ◌⊎◌, inl, inr, Bool, true, false, List, [], ◌∷◌, ◌++◌, length, take, Option, Some, sym, ◌∙◌, ap, subst, refl, arith, length-append, append-nil}
 use Rattle.std.specs.Prelude.{count_by, cond}
 use Rattle.std.proofs.Math.Seq.{take-append_seam, take-append-add}
 use Rattle.std.proofs.lemmas.List.{append_assoc}
@@ -23,14 +23,14 @@ use Rattle.unicorn_round.specs.Outcome.{Ran, Ends, AnswersAll, AnswersFirst, IsD
 use Rattle.unicorn_round.specs.Printed.{not_yet_line, schema_line}
 use Rattle.unicorn_round.specs.Reading.{LineState, EndFits, IsSpent}
 use Rattle.unicorn_round.specs.Rounds.{Passed, rounds_from, closed_from, rounds_so_far}
-use Rattle.unicorn_round.specs.ServedRounds.{Served, FirstRounds, ClosedRounds, AllRounds, serial_text}
+use Rattle.unicorn_round.specs.ServedRounds.{Served, FirstRounds, serial_text}
 use Rattle.unicorn_round.specs.Statuses.{status_of, refusal_text, RefusalWritten}
 use Rattle.unicorn_round.specs.Stops.{Stops, StopsFor, IsOut, IsPastLimit}
-use Rattle.unicorn_round.specs.Writing.{Took, TookPrefix}
+use Rattle.unicorn_round.specs.Writing.{Took}
 use Rattle.unicorn_round.proofs.Answering.{answered_of_opening}
 use Rattle.unicorn_round.proofs.Fronts.{so_far-passed, whole_lines-unbroken}
 use Rattle.unicorn_round.proofs.PassedSteps.{passed_start, passed_more, so_far}
-use Rattle.unicorn_round.proofs.ServeLoop.{stops_for, took_none}
+use Rattle.unicorn_round.proofs.ServeLoop.{took_none}
 
 -- where a reader stands before it reads
 abbrev pub fresh : Limits → LineState

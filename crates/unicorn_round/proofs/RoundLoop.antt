@@ -1,5 +1,5 @@
 -- A round, line by line.
-use Rattle.std.proofs.Common.{◌≡◌, ℕ, ◌+◌, Bool, true, false, List, [], ◌∷◌, ◌++◌, length, Option, None, Some, sym, ◌∙◌, ap, subst, refl, arith, append-nil, length-append}
+use Rattle.std.proofs.Common.{◌≡◌, ℕ, ◌+◌, true, false, List, [], ◌∷◌, ◌++◌, length, Option, None, Some, sym, ◌∙◌, ap, subst, refl, arith, append-nil, length-append}
 use Rattle.std.specs.Prelude.{Result, Ok, Err, OnOk, OnErr, is_err}
 use Rattle.std.specs.List.{list_any}
 use Rattle.std.proofs.lemmas.List.{append_assoc}

@@ -1,5 +1,5 @@
 -- Rounds, one after the other.
-use Rattle.std.proofs.Common.{◌≡◌, ℕ, ◌+◌, ◌≤◌, Bool, true, false, List, [], ◌∷◌, ◌++◌, length, take, Option, None, Some, inl, inr, sym, ◌∙◌, ap, subst, refl, arith, append-nil, length-append}
+use Rattle.std.proofs.Common.{◌≡◌, ℕ, ◌+◌, true, false, List, [], ◌∷◌, ◌++◌, length, take, Option, None, Some, inl, inr, sym, ◌∙◌, ap, subst, refl, arith, append-nil, length-append}
 use Rattle.std.specs.Prelude.{count_by, cond, MatchOption}
 use Rattle.std.specs.List.{list_any}
 use Rattle.std.proofs.Math.Seq.{take-append_seam, take-append-add}
@@ -9,7 +9,7 @@ use Rattle.std.proofs.lemmas.Grind.{flat_map-append}
 use Rattle.uni_base.specs.declared.limits.Limits.{Limits}
 use Rattle.uni_schema.specs.Schema.{Declarations}
 use Rattle.unicorn_round.specs.declared.item.Item.{Item}
-use Rattle.unicorn_round.specs.declared.status.Status.TheVariants.{Done, ReadFault, WriteFault, TooLong, Memory}
+use Rattle.unicorn_round.specs.declared.status.Status.TheVariants.{Done, WriteFault, Memory}
 use Rattle.unicorn_round.specs.declared.lines.ScriptRefusal.{ScriptRefusal}
 use Rattle.unicorn_round.specs.declared.lines.ScriptRefusal.TheVariants as refusals
 use Rattle.unicorn_round.specs.Answers.{joined}

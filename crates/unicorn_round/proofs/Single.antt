@@ -64,7 +64,7 @@ module _ (limits : Limits) (schema : Declarations) where
   few-fed feed (Ask line session viewer limit query) few = few
   few-fed feed (NotYet line) few = few
 
-  few-after : (feed : Feed) (items : List Item) → length feed.journal ≤ limits.publishes → length (feed_after limits schema feed items).journal ≤ limits.publishes
+  pub few-after : (feed : Feed) (items : List Item) → length feed.journal ≤ limits.publishes → length (feed_after limits schema feed items).journal ≤ limits.publishes
   few-after feed [] few = few
   few-after feed (item ∷ items) few = few-after (fed limits schema feed item) items (few-fed feed item few)
 

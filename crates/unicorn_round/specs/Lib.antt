@@ -3,6 +3,7 @@ pub mod Answers
 pub mod Completeness
 pub mod Example
 pub mod Items
+pub mod Laws
 pub mod LineItems
 pub mod Lines
 pub mod Opened

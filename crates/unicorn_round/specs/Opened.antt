@@ -1,5 +1,5 @@
 -- What reading a header gives.
-use Rattle.std.specs.Prelude.{ℕ, Bool, true, ◌≡◌, ◌≤◌, ◌+◌, ◌++◌, List, [], length, Option, ⊤}
+use Rattle.std.specs.Prelude.{ℕ, Bool, true, ◌≡◌, ◌≤◌, ◌+◌, ◌++◌, List, length, Option, ⊤}
 use Rattle.uni_base.specs.declared.limits.Limits.{Limits}
 use Rattle.uni_schema.specs.Schema.{Declarations}
 use Rattle.uni_schema.specs.Header.{Opening, opens, not_yet, short, opening_of}

@@ -6,6 +6,7 @@ pub mod examples;
 mod feed;
 mod gate;
 mod item;
+pub mod laws;
 mod line_item;
 mod lines;
 mod open;

@@ -1,4 +1,4 @@
-use Rattle.std.proofs.Common.{arith, ◌∙◌, ◌∷◌, [], ℕ, sym, subst, ap, MatchOption, length-append, List}
+use Rattle.std.proofs.Common.{arith, ◌∙◌, ◌∷◌, [], sym, subst, ap, MatchOption, length-append}
 use Rattle.unicorn_round.specs.RoundAnswers.{AnswersLast, AnswersRound}
 use Rattle.unicorn_round.specs.Serial.{Serving}
 use Rattle.unicorn_round.specs.ServedRounds.{Served}
