@@ -4,7 +4,10 @@ pub mod Operands
 pub mod Bounds
 pub mod Standing
 pub mod OptionsSound
+pub mod Counted
 pub mod Sound
 pub mod Worked
 pub mod Steps
+pub mod Balance
 pub mod Complete
+pub mod TextLaws

@@ -5,6 +5,8 @@ pub mod Refusals
 pub mod Operators
 pub mod Values
 pub mod Reading
+pub mod Depth
 pub mod Seen
 pub mod Grammar
+pub mod TextLaws
 pub mod Examples

@@ -1,5 +1,5 @@
 -- A query read from the left, with a list of the open lists.
-use Rattle.std.specs.Prelude.{ℕ, Bool, true, false, ◌&&◌, ◌+◌, nat_le, nat_lt, is_none, slice_range, map, List, [], ◌∷◌, length, Option, Some, None, unwrap_or, Result, Ok, Err, if◌then◌else◌}
+use Rattle.std.specs.Prelude.{ℕ, ◌≡◌, Bool, true, false, ◌&&◌, ◌+◌, nat_le, nat_lt, is_none, slice_range, map, List, [], ◌∷◌, length, Option, Some, None, unwrap_or, Result, Ok, Err, if◌then◌else◌}
 use Rattle.uni_base.specs.Words.{is_word}
 use Rattle.uni_base.specs.Fields.{cut_at}
 use Rattle.uni_base.specs.declared.limits.Limits.{Limits}
@@ -209,12 +209,25 @@ with_mark list lists nodes token None = refuse 36 token
 with_mark list lists nodes token (Some mark) =
     going_on (record list { mark = mark; tail = tails.OptionRead } ∷ lists) nodes
 
+-- the value that a token of a kind gives an option: a number or a fraction in its range
+abbrev pub limit_value : Limits → Lexeme → TokenKind → Option ℕ
+limit_value limits token tokens.Number = number_within 1 limits.join_limit token.bytes
+limit_value limits token kind = None
+
+abbrev pub hits_value : Lexeme → TokenKind → Option Mark
+hits_value token tokens.Number = hits_of token.bytes
+hits_value token kind = None
+
+abbrev pub weight_value : Lexeme → TokenKind → Option Mark
+weight_value token tokens.Fraction = weight_of token.bytes
+weight_value token kind = None
+
 -- an option's value is due
 abbrev pub value_token : Limits → OpenList → List OpenList → ℕ → Lexeme → OptionName → Result State Refused
 value_token limits list lists nodes token options.Limit =
-    with_limit list lists nodes token (number_within 1 limits.join_limit token.bytes)
-value_token limits list lists nodes token options.Hits = with_mark list lists nodes token (hits_of token.bytes)
-value_token limits list lists nodes token options.Weight = with_mark list lists nodes token (weight_of token.bytes)
+    with_limit list lists nodes token (limit_value limits token token.kind)
+value_token limits list lists nodes token options.Hits = with_mark list lists nodes token (hits_value token token.kind)
+value_token limits list lists nodes token options.Weight = with_mark list lists nodes token (weight_value token token.kind)
 
 -- the node of a list that may end
 abbrev pub node_of : OpenList → Part → Option Tree
@@ -322,3 +335,7 @@ tokens_read limits text (Err column) = Err (record { code = 31; column = column 
 -- the query of a text, or its first fault
 abbrev pub text_read : Limits → List ℕ → Result Tree Refused
 text_read limits text = tokens_read limits text (text_tokens text)
+
+-- a text's first fault has this code and this column
+abbrev pub QueryFault : Limits → List ℕ → ℕ → ℕ → Type 0
+QueryFault limits text code column = text_read limits text ≡ Err (record { code = code; column = column })

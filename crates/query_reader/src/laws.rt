@@ -1,8 +1,8 @@
 //! Laws about definitions, each the contract of a function that does nothing.
-ghost use Rattle.query_reader.specs.Grammar.{IsGrammarRead};
+ghost use Rattle.query_reader.specs.TextLaws.{OneQueryOrFault};
 
-/// What is read from the left is what the grammar spells.
-#[tactic(auto, using(crate::proofs::Complete::grammar_read))]
-pub fn reading_is_the_grammar()
-    ensures { IsGrammarRead }
+/// Every text has exactly one query or exactly one fault, and never both.
+#[tactic(auto, using(crate::proofs::TextLaws::query_or_fault))]
+pub fn one_query_or_fault()
+    ensures { OneQueryOrFault }
 {}

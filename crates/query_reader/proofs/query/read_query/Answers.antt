@@ -2,8 +2,8 @@ use Rattle.query_reader.proofs.Sound.{answer_sound}
 use Rattle.query_reader.proofs.Complete.{answer_complete}
 use Rattle.query_reader.proofs.query.read_query.Goals as goal
 
-pub returns-clause-spelled : goal.returns-clause-spelled
-returns-clause-spelled c = answer_sound c.args.limits.now c.args.text.now c.read.result c.read.ensures
+pub returns-clause-exact : goal.returns-clause-exact
+returns-clause-exact c = answer_sound c.args.limits.now c.args.text.now c.read.result c.read.ensures
 
 pub returns-clause-spells : goal.returns-clause-spells
 returns-clause-spells c tree spells =
