@@ -11,3 +11,10 @@ pub mod Steps
 pub mod Balance
 pub mod Complete
 pub mod TextLaws
+pub mod Bytes
+pub mod AtomForms
+pub mod Segments
+pub mod Deep
+pub mod Written
+pub mod Printed
+pub mod PrintRead

@@ -9,4 +9,5 @@ pub mod Depth
 pub mod Seen
 pub mod Grammar
 pub mod TextLaws
+pub mod PrintLaws
 pub mod Examples
