@@ -17,4 +17,6 @@ pub mod Segments
 pub mod Deep
 pub mod Written
 pub mod Printed
+pub mod SpelledWithin
+pub mod PrintLength
 pub mod PrintRead

@@ -14,6 +14,7 @@ use Rattle.query_reader.specs.Grammar.{NodeSpells, QuerySpells}
 use Rattle.query_reader.specs.PrintLaws.{PrintIsRead}
 use Rattle.query_reader.proofs.Complete.{text_complete}
 use Rattle.query_reader.proofs.Segments.{Segment, read_tokens}
+use Rattle.query_reader.proofs.PrintLength.{print_short}
 use Rattle.query_reader.proofs.Printed.{NodeWritten, node_written}
 
 -- the tokens of a text that is one part
@@ -49,4 +50,7 @@ print_read = record {
       λ limits tree standard within.
       let spelled = print_spells limits tree standard within in
       (spelled.0, (spelled.1.0, text_complete limits (query_text tree) spelled.0 spelled.1.1));
+  short =
+      λ limits tree standard within.
+      print_short limits tree (omega (arith, standard.join_limit)) within.allowed (omega (arith, within.nodes, standard.nodes));
 }

@@ -1,5 +1,5 @@
 -- The law of print and read.
-use Rattle.std.specs.Prelude.{◌≡◌, Ok}
+use Rattle.std.specs.Prelude.{◌≡◌, ◌<◌, Ok, length}
 use Rattle.uni_base.specs.declared.limits.Limits.{Limits}
 use Rattle.uni_base.specs.StandardLimits.{IsWithinStandard}
 use Rattle.query_tree.specs.Tree.{Tree}
@@ -10,6 +10,7 @@ use Rattle.query_reader.specs.Reading.{text_read}
 use Rattle.query_reader.specs.Grammar.{QuerySpells}
 
 -- The print of a query within the limits spells that query, and is read as it: equal but for columns.
+-- It is short enough to be read by a call.
 pub record PrintIsRead : Type 0 where
   pub spells :
       (limits : Limits) → (tree : Tree) → IsWithinStandard limits → IsWithin limits tree
@@ -17,3 +18,5 @@ pub record PrintIsRead : Type 0 where
   pub reads :
       (limits : Limits) → (tree : Tree) → IsWithinStandard limits → IsWithin limits tree
       → (again : Tree) × (AreSameButColumns again tree × (text_read limits (query_text tree) ≡ Ok again))
+  pub short :
+      (limits : Limits) → (tree : Tree) → IsWithinStandard limits → IsWithin limits tree → length (query_text tree) < 65536

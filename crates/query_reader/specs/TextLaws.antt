@@ -2,6 +2,7 @@
 use Rattle.std.specs.Prelude.{ℕ, ◌≡◌, ◌⊎◌, List}
 use Rattle.uni_base.specs.declared.limits.Limits.{Limits}
 use Rattle.query_tree.specs.Tree.{Tree}
+use Rattle.query_tree.specs.Within.{IsWithin}
 use Rattle.query_reader.specs.Reading.{QueryFault}
 use Rattle.query_reader.specs.Grammar.{QuerySpells}
 
@@ -20,3 +21,7 @@ pub record OneQueryOrFault : Type 0 where
   pub never_both :
       (limits : Limits) → (text : List ℕ) → (tree : Tree) → (code : ℕ) → (column : ℕ)
       → QuerySpells limits text tree → QueryFault limits text code column → ⊥
+
+-- a text's query is within the limits
+pub record SpelledIsWithin : Type 0 where
+  pub within : (limits : Limits) → (text : List ℕ) → (tree : Tree) → QuerySpells limits text tree → IsWithin limits tree

@@ -1,11 +1,17 @@
 //! Laws about definitions, each the contract of a function that does nothing.
 ghost use Rattle.query_reader.specs.PrintLaws.{PrintIsRead};
-ghost use Rattle.query_reader.specs.TextLaws.{OneQueryOrFault};
+ghost use Rattle.query_reader.specs.TextLaws.{SpelledIsWithin, OneQueryOrFault};
 
 /// Every text has exactly one query or exactly one fault, and never both.
 #[tactic(auto, using(crate::proofs::TextLaws::query_or_fault))]
 pub fn one_query_or_fault()
     ensures { OneQueryOrFault }
+{}
+
+/// What a text spells is within the limits: its names, its options, its size and its depth.
+#[tactic(auto, using(crate::proofs::SpelledWithin::spelled_is_within))]
+pub fn spelled_is_within()
+    ensures { SpelledIsWithin }
 {}
 
 /// The print of a query within the limits is read as that query, equal but for columns.

@@ -1,6 +1,7 @@
-ghost use Rattle.std.specs.Prelude.{◌≡◌, ◌-◌, ◌<◌, ◌≤◌, ◌^◌, length, MatchResult};
+ghost use Rattle.std.specs.Prelude.{◌≡◌, ◌-◌, ◌<◌, ◌≤◌, ◌^◌, length, IfOk, MatchResult};
 ghost use Rattle.uni_base.specs.StandardLimits.{IsWithinStandard};
 ghost use Rattle.query_tree.specs.Tree.{Tree, tree_of};
+ghost use Rattle.query_tree.specs.Within.{IsWithin};
 ghost use Rattle.query_reader.specs.Grammar.{IsQueryRefusal, QuerySpells};
 ghost use Rattle.query_reader.specs.Reading.{ended, lexeme_of, text_read};
 ghost use Rattle.query_reader.specs.Seen.{IsAnswer, token_of, whole_of};
@@ -26,6 +27,9 @@ pub fn read_query(alloc: Global, limits: &Limits, text: &[u8]) -> Result<Query, 
     // A text that spells a query is read as that query: only want of memory refuses it.
     ensures spells { (tree : Tree) → QuerySpells limits.now text.now tree
         → MatchResult result (λ query. tree_of query ≡ tree) (λ refusal. refusal ≡ QueryRefusal.Memory) }
+
+    // What is read is within the limits: its names, its options, its size and its depth.
+    ensures within { IfOk result (λ query. IsWithin limits.now (tree_of query)) }
 
     // The same from the left: the query that the tokens give, or their first fault.
     ensures reading { IsAnswer (text_read limits.now text.now) result }
