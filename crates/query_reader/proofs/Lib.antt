@@ -11,6 +11,8 @@ pub mod Steps
 pub mod Balance
 pub mod Complete
 pub mod TextLaws
+pub mod Continued
+pub mod FirstFault
 pub mod Bytes
 pub mod AtomForms
 pub mod Segments

@@ -72,7 +72,7 @@ pub record Bare (limits : Limits) (list : OpenList) (part : Part) (left : Lexeme
   pub plain : list.mark ≡ Plain
   pub limitless : list.limit ≡ None
 
-none_stands : (part : Part) → LimitStands part None
+pub none_stands : (part : Part) → LimitStands part None
 none_stands operator_due = refl
 none_stands term_due = refl
 none_stands (term_read column type_name key) = refl
@@ -347,7 +347,7 @@ tail_holds limits list lists nodes token left body given outer own (tails.ValueD
 tail_holds limits list lists nodes token left body given outer own tails.OptionRead is_tail is_own is_left spells endable waiting =
     after_holds limits list lists nodes token left body given outer own token.kind refl is_own is_left spells endable waiting
 
-step_holds : (limits : Limits) (lists : List OpenList) (whole : Option Tree) (nodes : ℕ) (token : Lexeme) (done : List Lexeme)
+pub step_holds : (limits : Limits) (lists : List OpenList) (whole : Option Tree) (nodes : ℕ) (token : Lexeme) (done : List Lexeme)
     → Stands limits lists whole done → Holds limits (step_in limits lists whole nodes token) (done ++ token ∷ [])
 step_holds limits [] None nodes token done stands = node_token_holds limits [] nodes token 31 done token.kind refl stands
 step_holds limits [] (Some node) nodes token done stands = tt

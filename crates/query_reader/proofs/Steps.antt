@@ -1,5 +1,5 @@
 -- The steps by which what is spelled is read.
-use Rattle.std.proofs.Common.{◌≡◌, ℕ, suc, ◌+◌, ◌<◌, ◌≤◌, ◌⊎◌, Bool, true, false, List, [], ◌∷◌, ◌++◌, length, Option, None, Some, Result, refl, sym, ap, ◌∙◌, arith, cond, inl, inr, append_assoc}
+use Rattle.std.proofs.Common.{◌≡◌, ℕ, suc, ◌+◌, ◌<◌, ◌≤◌, ◌⊎◌, Bool, true, false, List, [], ◌∷◌, ◌++◌, length, Option, None, Some, Result, Ok, Err, refl, sym, ap, ◌∙◌, subst, arith, cond, inl, inr, append_assoc, leb-true}
 use Rattle.std.specs.Prelude.{nat_le, nat_lt, ◌&&◌}
 use Rattle.std.proofs.lemmas.Bool.Decides.{leb_tells}
 use Rattle.uni_base.specs.declared.limits.Limits.{Limits}
@@ -197,36 +197,69 @@ rest_read limits column at part mark limit lists nodes given rest right node end
     ∙ ap (λ r. After limits column r rest) (right_step limits at part mark limit two.0 lists nodes right two.1.0 ends is_right)
     ∙ ap (λ (n : Option Tree). After limits column (closed (list_with at part mark limit two.0) lists nodes right n) rest) (is_node two.0)
 
--- where a limit is not reached, it does not stop
+-- a query of so many nodes has too many of them
+abbrev pub IsNodeFault : Limits → ℕ → Result Tree Refused → Type 0
+IsNodeFault limits total (Ok tree) = ⊥
+IsNodeFault limits total (Err fault) = (fault.code ≡ 38) × (limits.nodes < total)
+
+-- the one result is the other, unless a query of `total` nodes has too many of them
+pub data Leads (limits : Limits) (total : ℕ) (one other : Result Tree Refused) : Type 0 where
+  reads : one ≡ other → Leads limits total one other
+  stops : IsNodeFault limits total one → Leads limits total one other
+
+pub same : (limits : Limits) (total : ℕ) (one other : Result Tree Refused) → one ≡ other → Leads limits total one other
+same limits total one other is_same = reads is_same
+
+pub then_leads : (limits : Limits) (total : ℕ) (one two three : Result Tree Refused)
+    → Leads limits total one two → Leads limits total two three → Leads limits total one three
+then_leads limits total one two three (reads is_same) (reads also) = reads (is_same ∙ also)
+then_leads limits total one two three (reads is_same) (stops fault) = stops (subst (IsNodeFault limits total) (sym is_same) fault)
+then_leads limits total one two three (stops fault) later = stops fault
+
+-- where the limit of parentheses is not reached, it does not stop
 not_full : (most count : ℕ) → count < most → nat_le most count ≡ false
 not_full most count room = elim (leb_tells most count) [ inl full ↦ absurd (omega (arith, full.1)) | inr some ↦ some.0 ]
 
-pub term_begins : (limits : Limits) (column missing at : ℕ) (lists : List OpenList) (nodes : ℕ) (token : Lexeme) (type_name key : List ℕ) (rest : List Lexeme)
-    → IsTerm at type_name key token → nodes < limits.nodes
-    → Begin limits column missing lists nodes (token ∷ rest) ≡ After limits column (deliver lists (nodes + 1) (term_at at type_name key) Plain) rest
-term_begins limits column missing at lists nodes token type_name key rest (is_kind, is_column, is_pair) room =
-    ap (λ (k : TokenKind). After limits column (node_token limits lists nodes token missing k) rest) is_kind
-    ∙ ap (λ (b : Bool). After limits column (cond b (refuse 38 token) (bare_term lists (nodes + 1) token (pair_of token.bytes))) rest)
-    (not_full limits.nodes nodes room)
-    ∙ ap (λ (p : Option (List ℕ × List ℕ)). After limits column (bare_term lists (nodes + 1) token p) rest) is_pair
-    ∙ ap (λ (c : ℕ). After limits column (deliver lists (nodes + 1) (term_at c type_name key) Plain) rest) is_column
+unless_many : (limits : Limits) (total column : ℕ) (b : Bool) (nodes : ℕ) (token : Lexeme) (result : Result State Refused) (rest : List Lexeme)
+    → nat_le limits.nodes nodes ≡ b → nodes < total
+    → Leads limits total (After limits column (cond b (refuse 38 token) result) rest) (After limits column result rest)
+unless_many limits total column true nodes token result rest many below =
+    let over : limits.nodes ≤ nodes = leb-true limits.nodes nodes many in stops (refl, omega arith)
+unless_many limits total column false nodes token result rest few below = reads refl
 
-pub list_begins : (limits : Limits) (column missing at : ℕ) (lists : List OpenList) (nodes : ℕ) (left right : Lexeme) (body given spelled rest : List Lexeme)
+pub term_begins : (limits : Limits) (total column missing at : ℕ) (lists : List OpenList) (nodes : ℕ) (token : Lexeme) (type_name key : List ℕ) (rest : List Lexeme)
+    → IsTerm at type_name key token → nodes < total
+    → Leads limits total (Begin limits column missing lists nodes (token ∷ rest)) (After limits column (deliver lists (nodes + 1) (term_at at type_name key) Plain) rest)
+term_begins limits total column missing at lists nodes token type_name key rest (is_kind, is_column, is_pair) below =
+    then_leads _ _ _ _ _
+    (same _ _ _ _ (ap (λ (k : TokenKind). After limits column (node_token limits lists nodes token missing k) rest) is_kind))
+    (then_leads _ _ _ _ _
+    (unless_many limits total column (nat_le limits.nodes nodes) nodes token (bare_term lists (nodes + 1) token (pair_of token.bytes)) rest refl below)
+    (same _ _ _ _ (
+    ap (λ (p : Option (List ℕ × List ℕ)). After limits column (bare_term lists (nodes + 1) token p) rest) is_pair
+    ∙ ap (λ (c : ℕ). After limits column (deliver lists (nodes + 1) (term_at c type_name key) Plain) rest) is_column
+    )))
+
+pub list_begins : (limits : Limits) (total column missing at : ℕ) (lists : List OpenList) (nodes : ℕ) (left right : Lexeme) (body given spelled rest : List Lexeme)
     → spelled ≡ (left ∷ (body ++ given)) ++ right ∷ [] → left.kind ≡ tokens.Left → left.column ≡ at
-    → length lists < limits.depth → nodes < limits.nodes
-    → Begin limits column missing lists nodes (spelled ++ rest)
-    ≡ From limits column (bare_list at operator_due ∷ lists) (nodes + 1) (body ++ (given ++ right ∷ rest))
-list_begins limits column missing at lists nodes left right body given spelled rest is_spelled is_kind is_column shallow few =
+    → length lists < limits.depth → nodes < total
+    → Leads limits total (Begin limits column missing lists nodes (spelled ++ rest))
+    (From limits column (bare_list at operator_due ∷ lists) (nodes + 1) (body ++ (given ++ right ∷ rest)))
+list_begins limits total column missing at lists nodes left right body given spelled rest is_spelled is_kind is_column shallow below =
     let later : ((body ++ given) ++ right ∷ []) ++ rest ≡ body ++ (given ++ right ∷ rest) =
     append_assoc (body ++ given) (right ∷ []) rest ∙ append_assoc body given (right ∷ rest) in
     let opened : Result State Refused = going_on (bare_list left.column operator_due ∷ lists) (nodes + 1) in
+    then_leads _ _ _ _ _
+    (same _ _ _ _ (
     ap (λ xs. Begin limits column missing lists nodes (xs ++ rest)) is_spelled
     ∙ ap (λ xs. Begin limits column missing lists nodes (left ∷ xs)) later
     ∙ ap (λ (k : TokenKind). After limits column (node_token limits lists nodes left missing k) (body ++ (given ++ right ∷ rest))) is_kind
     ∙ ap (λ (b : Bool). After limits column (cond b (refuse 37 left) (cond (nat_le limits.nodes nodes) (refuse 38 left) opened)) (body ++ (given ++ right ∷ rest)))
     (not_full limits.depth (length lists) shallow)
-    ∙ ap (λ (b : Bool). After limits column (cond b (refuse 38 left) opened) (body ++ (given ++ right ∷ rest))) (not_full limits.nodes nodes few)
-    ∙ ap (λ (c : ℕ). From limits column (bare_list c operator_due ∷ lists) (nodes + 1) (body ++ (given ++ right ∷ rest))) is_column
+    ))
+    (then_leads _ _ _ _ _
+    (unless_many limits total column (nat_le limits.nodes nodes) nodes left (going_on (bare_list left.column operator_due ∷ lists) (nodes + 1)) (body ++ (given ++ right ∷ rest)) refl below)
+    (same _ _ _ _ (ap (λ (c : ℕ). From limits column (bare_list c operator_due ∷ lists) (nodes + 1) (body ++ (given ++ right ∷ rest))) is_column)))
 
 pub operator_read : (limits : Limits) (column at : ℕ) (lists : List OpenList) (nodes : ℕ) (name : Lexeme) (operator : Operator) (rest : List Lexeme)
     → IsOperator operator name

@@ -9,5 +9,6 @@ pub mod Depth
 pub mod Seen
 pub mod Grammar
 pub mod TextLaws
+pub mod FirstFault
 pub mod PrintLaws
 pub mod Examples

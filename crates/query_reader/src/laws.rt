@@ -1,4 +1,5 @@
 //! Laws about definitions, each the contract of a function that does nothing.
+ghost use Rattle.query_reader.specs.FirstFault.{FaultIsFirst};
 ghost use Rattle.query_reader.specs.PrintLaws.{PrintIsRead};
 ghost use Rattle.query_reader.specs.TextLaws.{SpelledIsWithin, OneQueryOrFault};
 
@@ -6,6 +7,12 @@ ghost use Rattle.query_reader.specs.TextLaws.{SpelledIsWithin, OneQueryOrFault};
 #[tactic(auto, using(crate::proofs::TextLaws::query_or_fault))]
 pub fn one_query_or_fault()
     ensures { OneQueryOrFault }
+{}
+
+/// The first fault stands where no query goes on, though one begins with what stands before it.
+#[tactic(auto, using(crate::proofs::FirstFault::fault_is_first))]
+pub fn fault_is_first()
+    ensures { FaultIsFirst }
 {}
 
 /// What a text spells is within the limits: its names, its options, its size and its depth.

@@ -28,7 +28,8 @@ pub struct State {
 
 /// The fault of a code at a token.
 pub fn refused(code: u32, token: &Lexeme<'_>) -> Result<State, QueryRefusal>
-    ensures { IsStep (refuse code (token_of token.now)) result }
+    ensures step { IsStep (refuse code (token_of token.now)) result }
+    ensures fault { result ≡ Err (QueryRefusal.Fault code token.now.column) }
 {
     Err(QueryRefusal::Fault {
         code,
