@@ -1,13 +1,12 @@
 -- What was read can be continued to a query.
 use Rattle.std.proofs.Common.{◌≡◌, ℕ, zero, suc, ◌+◌, ◌-◌, ◌≤◌, true, cond, List, [], ◌∷◌, ◌++◌, Option, None, Some, refl, sym, ap, ◌∙◌, subst, arith, inl, inr, append_assoc, append-nil, codes}
-use Rattle.std.specs.Prelude.{nat_le, unwrap_or}
+use Rattle.std.specs.Prelude.{nat_le}
 use Rattle.uni_base.specs.declared.limits.Limits.{Limits}
 use Rattle.query_tree.specs.declared.kind.ListKind.{ListKind}
 use Rattle.query_tree.specs.declared.kind.ListKind.TheVariants.{And, Or, Difference, WeakAnd, StrongOr}
 use Rattle.query_tree.specs.declared.query.Mark.{Mark}
 use Rattle.query_tree.specs.declared.query.Mark.TheVariants.{Plain, Hits, Weight}
-use Rattle.query_tree.specs.Tree.{Tree, Forest, term_at, list_at, join_at}
-use Rattle.query_tree.specs.Text.{default_limit}
+use Rattle.query_tree.specs.Tree.{Tree, Forest, term_at}
 use Rattle.query_tree.specs.Within.{operand_count}
 use Rattle.query_reader.specs.declared.token.TokenKind.{TokenKind}
 use Rattle.query_reader.specs.declared.token.TokenKind.TheVariants as tokens
@@ -22,7 +21,8 @@ use Rattle.query_reader.specs.Grammar.{IsOption, OptionsSpell, MayHave, NodeSpel
 use Rattle.query_reader.specs.FirstFault.{BeginQuery}
 use Rattle.query_reader.proofs.Balance.{opened, opened-append, most-append}
 use Rattle.query_reader.proofs.Standing.{PartSpells, PartEnds, Endable, TailSpells, Waiting, Stands, no_option, count_more, may_be_plain, plain_alone, part_grows}
-use Rattle.query_reader.proofs.OptionsSound.{count_fits, mark_alone, limit_alone, limit_may, hits_may, weight_may}
+use Rattle.query_reader.proofs.EndsSound.{list_node}
+use Rattle.query_reader.proofs.OptionsSound.{mark_alone, limit_alone, limit_may, hits_may, weight_may}
 use Rattle.query_reader.proofs.Sound.{none_stands}
 
 -- tokens that open nothing
@@ -160,68 +160,9 @@ end_part limits (node_due join column type_name) body some spells = record {
 }
 end_part limits (node_read join column type_name node) body some spells = already_ended limits (node_read join column type_name node) body spells tt
 
--- a list that may end, with its end
-enclosed_node : (limits : Limits) (column : ℕ) (part : Part) (mark : Mark) (limit : Option ℕ) (parent : Option ListKind) (left right : Lexeme) (body given : List Lexeme)
-    → (left.kind ≡ tokens.Left) × (left.column ≡ column) → PartSpells limits part body → Endable limits part mark limit parent given
-    → right.kind ≡ tokens.Right → (node : Tree) × NodeSpells limits node mark ((left ∷ (body ++ given)) ++ right ∷ [])
-enclosed_node limits column operator_due mark limit parent left right body given is_left spells endable is_right = absurd endable.ends
-enclosed_node limits column term_due mark limit parent left right body given is_left spells endable is_right = absurd endable.ends
-enclosed_node limits column (term_read at type_name key) mark limit parent left right body given is_left spells endable is_right = (
-  term_at at type_name key,
-  inr (
-    column,
-    (
-      left,
-      (
-        body,
-        (
-          given,
-          (
-            right,
-            (
-              refl,
-              is_left,
-              spells,
-              subst (λ (l : Option ℕ). OptionsSpell limits mark l given) endable.stands endable.spelled,
-              is_right,
-            ),
-          ),
-        ),
-      ),
-    ),
-  ),
-)
-enclosed_node limits column (operands_read kind forest) mark limit parent left right body given is_left (name, (inner, (is_body, is_name, forest_spells, few))) endable is_right = (
-  list_at column kind forest,
-  (
-    count_fits limits kind (operand_count forest) endable.ends few,
-    (
-      left,
-      (
-        body,
-        (
-          given,
-          (
-            right,
-            (
-              refl,
-              is_left,
-              (name, (inner, (is_body, is_name, forest_spells))),
-              subst (λ (l : Option ℕ). OptionsSpell limits mark l given) endable.stands endable.spelled,
-              is_right,
-            ),
-          ),
-        ),
-      ),
-    ),
-  ),
-)
-enclosed_node limits column (prefix_due join) mark limit parent left right body given is_left spells endable is_right = absurd endable.ends
-enclosed_node limits column (node_due join at type_name) mark limit parent left right body given is_left spells endable is_right = absurd endable.ends
-enclosed_node limits column (node_read join at type_name node) mark limit parent left right body given is_left spells endable is_right = (
-  join_at column join at type_name (unwrap_or limit default_limit) node,
-  (limit, (refl, (left, (body, (given, (right, (refl, is_left, spells, endable.spelled, is_right))))))),
-)
+-- an open list
+abbrev list_of : ℕ → Part → Mark → Option ℕ → OpenList
+list_of column part mark limit = record { column = column; part = part; mark = mark; limit = limit; tail = tails.NoOption }
 
 -- the innermost list, with what is missing
 record ListEnded (limits : Limits) (parent : Option ListKind) (own : List Lexeme) : Type 0 where
@@ -235,7 +176,7 @@ record ListEnded (limits : Limits) (parent : Option ListKind) (own : List Lexeme
 end_bare : (limits : Limits) (column : ℕ) (parent : Option ListKind) (left : Lexeme) (body own : List Lexeme)
     → (left.kind ≡ tokens.Left) × (left.column ≡ column) → own ≡ left ∷ body → PartEnded limits body → ListEnded limits parent own
 end_bare limits column parent left body own is_left is_own ended =
-    let closed = enclosed_node limits column ended.ended Plain None parent left a_right (body ++ ended.more) [] is_left ended.spells
+    let closed = list_node limits (list_of column ended.ended Plain None) ended.ended parent left a_right (body ++ ended.more) [] is_left ended.spells
     (record {
       spelled = ([], ([], (refl, inl (refl, refl))));
       ends = ended.ends;
@@ -251,7 +192,7 @@ end_bare limits column parent left body own is_left is_own ended =
       node = closed.0;
       mark = Plain;
       falls = falls-append ended.more (a_right ∷ []) ended.falls (falls-cons a_right [] tt falls-none);
-      spelled = subst (λ (xs : List Lexeme). NodeSpells limits closed.0 Plain xs) same closed.1;
+      spelled = subst (λ (xs : List Lexeme). NodeSpells limits closed.0 Plain xs) same closed.1.1;
       may_have = may_be_plain parent;
     }
 
@@ -261,7 +202,7 @@ end_valued : (limits : Limits) (column : ℕ) (part : Part) (mark : Mark) (limit
     → OpensNothing value.kind → PartSpells limits part body → Endable limits part mark limit parent (before ++ option ∷ value ∷ [])
     → ListEnded limits parent own
 end_valued limits column part mark limit parent left option value body before given own is_left is_own is_given none spells endable =
-    let closed = enclosed_node limits column part mark limit parent left a_right body (before ++ option ∷ value ∷ []) is_left spells endable refl in
+    let closed = list_node limits (list_of column part mark limit) part parent left a_right body (before ++ option ∷ value ∷ []) is_left spells endable refl in
     let same : (left ∷ (body ++ (before ++ option ∷ value ∷ []))) ++ a_right ∷ [] ≡ own ++ value ∷ a_right ∷ [] =
     ap (λ xs. left ∷ xs) (append_assoc body (before ++ option ∷ value ∷ []) (a_right ∷ []))
     ∙ ap (λ xs. left ∷ (body ++ xs)) (append_assoc before (option ∷ value ∷ []) (a_right ∷ []))
@@ -274,7 +215,7 @@ end_valued limits column part mark limit parent left option value body before gi
       node = closed.0;
       mark = mark;
       falls = falls-cons value (a_right ∷ []) none (falls-cons a_right [] tt falls-none);
-      spelled = subst (λ (xs : List Lexeme). NodeSpells limits closed.0 mark xs) same closed.1;
+      spelled = subst (λ (xs : List Lexeme). NodeSpells limits closed.0 mark xs) same closed.1.1;
       may_have = endable.may_have;
     }
 
@@ -361,13 +302,13 @@ end_list limits list parent own tails.NoOption left body given some_operand some
 end_list limits list parent own (tails.ValueDue name) left body given some_operand some_hit is_own is_left spells (before, (option, (is_given, is_option, may, endable))) =
     value_due limits list parent left option body before given own name some_hit is_left is_own is_given spells is_option may endable
 end_list limits list parent own tails.OptionRead left body given some_operand some_hit is_own is_left spells endable =
-    let closed = enclosed_node limits list.column list.part list.mark list.limit parent left a_right body given is_left spells endable refl in
+    let closed = list_node limits list list.part parent left a_right body given is_left spells endable refl in
     record {
       more = a_right ∷ [];
       node = closed.0;
       mark = list.mark;
       falls = falls-cons a_right [] tt falls-none;
-      spelled = subst (λ (xs : List Lexeme). NodeSpells limits closed.0 list.mark (xs ++ a_right ∷ [])) (sym is_own) closed.1;
+      spelled = subst (λ (xs : List Lexeme). NodeSpells limits closed.0 list.mark (xs ++ a_right ∷ [])) (sym is_own) closed.1.1;
       may_have = endable.may_have;
     }
 

@@ -3,9 +3,11 @@ pub mod SpansLemmas
 pub mod Operands
 pub mod Bounds
 pub mod Standing
+pub mod EndsSound
 pub mod OptionsSound
 pub mod Counted
 pub mod Sound
+pub mod TextSound
 pub mod Worked
 pub mod Steps
 pub mod Balance

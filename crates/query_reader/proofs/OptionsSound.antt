@@ -1,15 +1,12 @@
--- Ends of lists and options, as the reading stands for them.
-use Rattle.std.proofs.Common.{◌≡◌, ℕ, ◌≤◌, Bool, true, false, List, [], ◌∷◌, ◌++◌, Option, None, Some, refl, sym, ap, ◌∙◌, subst, arith, cond, inl, inr, append_assoc, append-nil}
-use Rattle.std.specs.Prelude.{unwrap_or, ◌&&◌, is_none}
+-- Options, as the reading stands for them.
+use Rattle.std.proofs.Common.{◌≡◌, ℕ, Bool, true, false, List, [], ◌∷◌, ◌++◌, Option, None, Some, refl, sym, ap, ◌∙◌, subst, cond, inl, inr, append_assoc, append-nil}
+use Rattle.std.specs.Prelude.{◌&&◌, is_none}
 use Rattle.uni_base.specs.Fields.{cut_at}
 use Rattle.uni_base.specs.declared.limits.Limits.{Limits}
 use Rattle.query_tree.specs.declared.kind.ListKind.{ListKind}
 use Rattle.query_tree.specs.declared.kind.ListKind.TheVariants.{And, Or, Difference, WeakAnd, StrongOr}
 use Rattle.query_tree.specs.declared.query.Mark.{Mark}
 use Rattle.query_tree.specs.declared.query.Mark.TheVariants.{Plain, Hits, Weight}
-use Rattle.query_tree.specs.Tree.{term_at, list_at, join_at}
-use Rattle.query_tree.specs.Text.{default_limit}
-use Rattle.query_tree.specs.Within.{IsOperandCount, operand_count}
 use Rattle.query_reader.specs.declared.token.TokenKind.{TokenKind}
 use Rattle.query_reader.specs.declared.token.TokenKind.TheVariants as tokens
 use Rattle.query_reader.specs.declared.value.OptionName.{OptionName}
@@ -17,112 +14,9 @@ use Rattle.query_reader.specs.declared.value.OptionName.TheVariants as options
 use Rattle.query_reader.specs.declared.open_list.Tail.{Tail}
 use Rattle.query_reader.specs.declared.open_list.Tail.TheVariants as tails
 use Rattle.query_reader.specs.Values.{option_of, number_within, hits_with, weight_of, weight_over, weight_under, weight_parts}
-use Rattle.query_reader.specs.Reading.{Lexeme, Part, operator_due, term_due, term_read, operands_read, prefix_due, node_due, node_read, OpenList, refuse, going_on, parent_kind, is_join, is_plain, may_take, option_found, option_token, with_limit, with_mark, limit_value, hits_value, weight_value, value_token, node_of, closed, close, least_operands, most_operands}
+use Rattle.query_reader.specs.Reading.{Lexeme, Part, operator_due, term_due, term_read, operands_read, prefix_due, node_due, node_read, OpenList, refuse, going_on, parent_kind, is_join, is_plain, may_take, option_found, option_token, with_limit, with_mark, limit_value, hits_value, weight_value, value_token}
 use Rattle.query_reader.specs.Grammar.{IsOption, LimitSpells, MarkSpells, OptionsSpell, MayHave}
-use Rattle.query_reader.proofs.Standing.{PartSpells, LimitStands, Endable, Waiting, Holds, deliver_holds}
-
-pub count_fits : (limits : Limits) (kind : ListKind) (count : ℕ) → least_operands kind ≤ count → count ≤ most_operands limits kind
-    → IsOperandCount limits kind count
-count_fits limits And count least most = (omega arith, omega arith)
-count_fits limits Or count least most = (omega arith, omega arith)
-count_fits limits Difference count least most = omega arith
-count_fits limits WeakAnd count least most = (omega arith, omega arith)
-count_fits limits StrongOr count least most = (omega arith, omega arith)
-
--- the end of a list, by its part
-pub closed_holds : (limits : Limits) (list : OpenList) (lists : List OpenList) (nodes : ℕ) (token : Lexeme) (part : Part)
-    (left : Lexeme) (body given outer own : List Lexeme)
-    → own ≡ left ∷ (body ++ given) → (left.kind ≡ tokens.Left) × (left.column ≡ list.column) → PartSpells limits part body
-    → Endable limits part list.mark list.limit (parent_kind lists) given → Waiting limits lists outer → token.kind ≡ tokens.Right
-    → Holds limits (closed list lists nodes token (node_of list part)) (outer ++ (own ++ token ∷ []))
-closed_holds limits list lists nodes token operator_due left body given outer own is_own is_left spells endable waiting is_right = absurd endable.ends
-closed_holds limits list lists nodes token term_due left body given outer own is_own is_left spells endable waiting is_right = absurd endable.ends
-closed_holds limits list lists nodes token (term_read column type_name key) left body given outer own is_own is_left spells endable waiting is_right =
-    deliver_holds limits lists nodes (term_at column type_name key) list.mark outer (own ++ token ∷ []) waiting
-    (inr (
-      list.column,
-      (
-        left,
-        (
-          body,
-          (
-            given,
-            (
-              token,
-              (
-                ap (λ xs. xs ++ token ∷ []) is_own,
-                is_left,
-                spells,
-                subst (λ (l : Option ℕ). OptionsSpell limits list.mark l given) endable.stands endable.spelled,
-                is_right,
-              ),
-            ),
-          ),
-        ),
-      ),
-    ))
-    endable.may_have
-closed_holds limits list lists nodes token (operands_read kind forest) left body given outer own is_own is_left (name, (inner, (is_body, is_name, forest_spells, few))) endable waiting is_right =
-    deliver_holds limits lists nodes (list_at list.column kind forest) list.mark outer (own ++ token ∷ []) waiting (
-      count_fits limits kind (operand_count forest) endable.ends few,
-      (
-        left,
-        (
-          body,
-          (
-            given,
-            (
-              token,
-              (
-                ap (λ xs. xs ++ token ∷ []) is_own,
-                is_left,
-                (name, (inner, (is_body, is_name, forest_spells))),
-                subst (λ (l : Option ℕ). OptionsSpell limits list.mark l given) endable.stands endable.spelled,
-                is_right,
-              ),
-            ),
-          ),
-        ),
-      ),
-    )
-    endable.may_have
-closed_holds limits list lists nodes token (prefix_due join) left body given outer own is_own is_left spells endable waiting is_right = absurd endable.ends
-closed_holds limits list lists nodes token (node_due join column type_name) left body given outer own is_own is_left spells endable waiting is_right = absurd endable.ends
-closed_holds limits list lists nodes token (node_read join column type_name node) left body given outer own is_own is_left spells endable waiting is_right =
-    deliver_holds limits lists nodes (join_at list.column join column type_name (unwrap_or list.limit default_limit) node) list.mark outer (own ++ token ∷ []) waiting (
-      list.limit,
-      (
-        refl,
-        (
-          left,
-          (
-            body,
-            (
-              given,
-              (
-                token,
-                (
-                  ap (λ xs. xs ++ token ∷ []) is_own,
-                  is_left,
-                  spells,
-                  endable.spelled,
-                  is_right,
-                ),
-              ),
-            ),
-          ),
-        ),
-      ),
-    )
-    endable.may_have
-
-pub close_holds : (limits : Limits) (list : OpenList) (lists : List OpenList) (nodes : ℕ) (token : Lexeme)
-    (left : Lexeme) (body given outer own : List Lexeme)
-    → own ≡ left ∷ (body ++ given) → (left.kind ≡ tokens.Left) × (left.column ≡ list.column) → PartSpells limits list.part body
-    → Endable limits list.part list.mark list.limit (parent_kind lists) given → Waiting limits lists outer → token.kind ≡ tokens.Right
-    → Holds limits (close list lists nodes token) (outer ++ (own ++ token ∷ []))
-close_holds limits list lists nodes token left body given outer own is_own is_left spells endable waiting is_right =
-    closed_holds limits list lists nodes token list.part left body given outer own is_own is_left spells endable waiting is_right
+use Rattle.query_reader.proofs.Standing.{PartSpells, LimitStands, Endable, Waiting, Holds}
 
 -- whether an option may stand does not depend on what is due
 pub may_same : (name : OptionName) (list : OpenList) (parent : Option ListKind) (tail : Tail)

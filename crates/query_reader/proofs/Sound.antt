@@ -1,6 +1,6 @@
 -- What is read is spelled: step by step, from the left.
-use Rattle.std.proofs.Common.{◌≡◌, ℕ, ◌+◌, ◌≤◌, Bool, true, false, List, [], ◌∷◌, ◌++◌, Option, None, Some, Result, Ok, Err, refl, sym, ap, ◌∙◌, subst, arith, cond, inl, length, append_assoc, append-nil}
-use Rattle.std.specs.Prelude.{nat_le, nat_lt, MatchResult, map}
+use Rattle.std.proofs.Common.{◌≡◌, ℕ, ◌≤◌, Bool, true, false, List, [], ◌∷◌, ◌++◌, Option, None, Some, Result, Ok, Err, refl, sym, ap, ◌∙◌, subst, arith, cond, inl, append_assoc, append-nil}
+use Rattle.std.specs.Prelude.{nat_le, nat_lt}
 use Rattle.std.proofs.lemmas.Bool.{leb-false, ltb-false}
 use Rattle.uni_base.specs.declared.limits.Limits.{Limits}
 use Rattle.query_tree.specs.declared.kind.ListKind.{ListKind}
@@ -16,18 +16,11 @@ use Rattle.query_reader.specs.declared.operator.Operator.TheVariants as operator
 use Rattle.query_reader.specs.declared.open_list.Tail.{Tail}
 use Rattle.query_reader.specs.declared.open_list.Tail.TheVariants as tails
 use Rattle.query_reader.specs.Operators.{operator_of}
-use Rattle.query_reader.specs.Reading.{Lexeme, Refused, Part, operator_due, term_due, term_read, operands_read, prefix_due, node_due, node_read, OpenList, State, start, refuse, pair_of, prefix_of, begin_list, begin_term, node_token, first_part, with_part, operator_found, operator_token, term_found, term_token, prefix_found, prefix_token, parent_kind, option_token, close, end_token, least_operands, most_operands, operands_token, after_option, part_token, tail_token, step_in, step, ended, go_on, read_from, lexeme_of, tokens_read, text_read}
-use Rattle.query_tree.specs.declared.query.Query.{Query}
-use Rattle.query_tree.specs.declared.refusal.QueryRefusal.{QueryRefusal}
-use Rattle.query_tree.specs.declared.refusal.QueryRefusal.TheVariants.{Fault, Memory}
-use Rattle.query_tree.specs.Tree.{tree_of}
-use Rattle.query_reader.specs.declared.token.Token.{Token}
-use Rattle.query_reader.specs.Tokens.{text_tokens}
-use Rattle.query_reader.specs.Seen.{IsAnswer}
-use Rattle.query_reader.specs.Grammar.{IsOperator, OptionsSpell, MayHave, NodeSpells, QuerySpells, IsQueryRefusal}
+use Rattle.query_reader.specs.Reading.{Lexeme, Refused, Part, operator_due, term_due, term_read, operands_read, prefix_due, node_due, node_read, OpenList, State, refuse, pair_of, prefix_of, begin_list, begin_term, node_token, first_part, with_part, operator_found, operator_token, term_found, term_token, prefix_found, prefix_token, parent_kind, option_token, close, end_token, least_operands, most_operands, operands_token, after_option, part_token, tail_token, step_in, step, ended, go_on, read_from}
+use Rattle.query_reader.specs.Grammar.{IsOperator, OptionsSpell, MayHave, NodeSpells}
 use Rattle.query_reader.proofs.Standing.{PartSpells, PartEnds, PartExpects, LimitStands, Endable, TailSpells, Waiting, Stands, Holds, may_be_plain, begin_list_holds, begin_term_holds, node_token_holds}
-use Rattle.query_reader.proofs.Counted.{ReadWithin, start_within}
-use Rattle.query_reader.proofs.OptionsSound.{close_holds, option_holds, value_holds}
+use Rattle.query_reader.proofs.EndsSound.{close_holds}
+use Rattle.query_reader.proofs.OptionsSound.{option_holds, value_holds}
 
 -- where a list may end
 end_holds : (limits : Limits) (list : OpenList) (lists : List OpenList) (nodes : ℕ) (token left : Lexeme)
@@ -383,28 +376,3 @@ read_sound limits column state done (token ∷ rest) node stands is_ok =
     (go_on_sound limits (step limits state token) (λ next. read_from limits column next rest) (done ++ token ∷ []) rest node
     (step_holds limits state.open_lists state.whole state.nodes token done stands) is_ok
     (λ next holds is_rest. read_sound limits column next (done ++ token ∷ []) rest node holds is_rest))
-
-tokens_sound : (limits : Limits) (text : List ℕ) (all : Result (List Token) ℕ) (node : Tree)
-    → text_tokens text ≡ all → tokens_read limits text all ≡ Ok node → QuerySpells limits text node
-tokens_sound limits text (Ok all) node are_tokens is_ok =
-    let within : ReadWithin limits 0 (map (lexeme_of text) all) node =
-    start_within limits (length text + 1) (map (lexeme_of text) all) node is_ok in
-    record {
-      lexed = all;
-      of_text = are_tokens;
-      spelled = read_sound limits (length text + 1) start [] (map (lexeme_of text) all) node refl is_ok;
-      nodes = within.few;
-      depth = within.deep;
-    }
-tokens_sound limits text (Err column) node are_tokens is_ok = absurd (cc)
-
-pub text_sound : (limits : Limits) (text : List ℕ) (node : Tree) → text_read limits text ≡ Ok node → QuerySpells limits text node
-text_sound limits text node is_ok = tokens_sound limits text (text_tokens text) node refl is_ok
-
--- an answer that is right is spelled, or is the first fault
-pub answer_sound : (limits : Limits) (text : List ℕ) (answer : Result Query QueryRefusal)
-    → IsAnswer (text_read limits text) answer
-    → MatchResult answer (λ query. QuerySpells limits text (tree_of query)) (IsQueryRefusal limits text)
-answer_sound limits text (Ok query) is_answer = text_sound limits text (tree_of query) is_answer
-answer_sound limits text (Err (Fault code column)) is_answer = is_answer
-answer_sound limits text (Err Memory) is_answer = tt

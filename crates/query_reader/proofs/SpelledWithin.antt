@@ -29,7 +29,7 @@ use Rattle.query_reader.specs.Depth.{open_after, most_open}
 use Rattle.query_reader.specs.Grammar.{LimitSpells, MarkSpells, OptionsSpell, MayHave, NodeSpells, ForestSpells, QuerySpells, IsTerm, IsPrefix}
 use Rattle.query_reader.specs.TextLaws.{SpelledIsWithin}
 use Rattle.query_reader.proofs.SpansLemmas.{text_spans}
-use Rattle.query_reader.proofs.Sound.{text_sound}
+use Rattle.query_reader.proofs.TextSound.{text_sound}
 use Rattle.query_reader.proofs.Balance.{opened, most-first, most-append, balanced-node}
 use Rattle.query_reader.proofs.Bytes.{both-true}
 use Rattle.query_reader.proofs.Segments.{parts}

@@ -5,7 +5,7 @@ use Rattle.query_tree.specs.Tree.{Tree}
 use Rattle.query_reader.specs.Reading.{Refused, text_read, QueryFault}
 use Rattle.query_reader.specs.Grammar.{QuerySpells}
 use Rattle.query_reader.specs.TextLaws.{OneQueryOrFault}
-use Rattle.query_reader.proofs.Sound.{text_sound}
+use Rattle.query_reader.proofs.TextSound.{text_sound}
 use Rattle.query_reader.proofs.Complete.{text_complete}
 
 by_result : (limits : Limits) (text : List ℕ) (result : Result Tree Refused) → text_read limits text ≡ result

@@ -1,4 +1,4 @@
-use Rattle.query_reader.proofs.Sound.{answer_sound}
+use Rattle.query_reader.proofs.TextSound.{answer_sound}
 use Rattle.query_reader.proofs.Complete.{answer_complete}
 use Rattle.query_reader.proofs.SpelledWithin.{answer_within}
 use Rattle.query_reader.proofs.query.read_query.Goals as goal
