@@ -9,8 +9,7 @@ use Rattle.query_tree.specs.declared.query.Mark.{Mark}
 use Rattle.query_tree.specs.declared.query.Mark.TheVariants.{Plain}
 use Rattle.query_tree.specs.Tree.{Tree, Forest, term_at, list_at, join_at, no_operands, with_operand}
 use Rattle.query_tree.specs.Size.{node_count, operand_nodes}
-use Rattle.query_tree.specs.Text.{default_limit}
-use Rattle.query_tree.specs.Within.{IsOperandCount, operand_count}
+use Rattle.query_tree.specs.Within.{IsOperandCount, limit_unless_given, operand_count}
 use Rattle.query_reader.specs.declared.token.TokenKind.{TokenKind}
 use Rattle.query_reader.specs.declared.token.TokenKind.TheVariants as tokens
 use Rattle.query_reader.specs.declared.operator.Operator.TheVariants as operators
@@ -154,7 +153,7 @@ mutual
       (node_leads limits total column node Plain inner node_spells 35 (due ∷ lists) (nodes + 1) (given ++ right ∷ rest) tt (omega arith) deep)
       (same _ _ _ _ (
       rest_read limits column at (node_read join place type_name node) mark limit_given lists ((nodes + 1) + node_count node) given rest right
-      (join_at at join place type_name (unwrap_or limit_given default_limit) node)
+      (join_at at join place type_name (unwrap_or limit_given (limit_unless_given limits)) node)
       tt may (may_limit_join join place type_name node limit_given) opts is_right (λ tail. refl)
       ∙ ap (λ (l : ℕ). After limits column (deliver lists ((nodes + 1) + node_count node) (join_at at join place type_name l node) mark) rest) (sym is_limit)
       ∙ recount limits column lists (join_at at join place type_name limit node) mark rest ((nodes + 1) + node_count node) (nodes + (1 + node_count node)) (omega arith)

@@ -123,12 +123,12 @@ node_fits limits lists nodes token missing kind fits = refl
 
 close_fits : (limits : Limits) (list : OpenList) (lists : List OpenList) (nodes : ℕ) (token : Lexeme)
     → Fits limits (list ∷ lists) None nodes (length (list ∷ lists))
-    → StepFits limits token (close list lists nodes token) (open_after (length (list ∷ lists)) tokens.Right)
+    → StepFits limits token (close limits list lists nodes token) (open_after (length (list ∷ lists)) tokens.Right)
 close_fits limits list lists nodes token fits =
-    recounted limits token (close list lists nodes token) (length lists) (open_after (length (list ∷ lists)) tokens.Right) (omega arith)
+    recounted limits token (close limits list lists nodes token) (length lists) (open_after (length (list ∷ lists)) tokens.Right) (omega arith)
     (ends list.part fits.counted)
   where
-    ends : (part : Part) → (1 + part_nodes part + list_nodes lists) + 0 ≤ nodes → StepFits limits token (closed list lists nodes token (node_of list part)) (length lists)
+    ends : (part : Part) → (1 + part_nodes part + list_nodes lists) + 0 ≤ nodes → StepFits limits token (closed list lists nodes token (node_of limits list part)) (length lists)
     ends (term_read column type_name key) counted =
         deliver_fits limits token lists nodes _ list.mark (omega (arith, fits.deep)) (omega arith) fits.few
     ends (operands_read kind forest) counted =
@@ -153,14 +153,14 @@ option_fits limits list lists nodes token fits = found (option_of token.bytes)
 
 end_fits : (limits : Limits) (list : OpenList) (lists : List OpenList) (nodes : ℕ) (token : Lexeme) (kind : TokenKind)
     → Fits limits (list ∷ lists) None nodes (length (list ∷ lists))
-    → StepFits limits token (end_token list lists nodes token kind) (open_after (length (list ∷ lists)) kind)
+    → StepFits limits token (end_token limits list lists nodes token kind) (open_after (length (list ∷ lists)) kind)
 end_fits limits list lists nodes token tokens.Right fits = close_fits limits list lists nodes token fits
 end_fits limits list lists nodes token tokens.Option fits = option_fits limits list lists nodes token fits
 end_fits limits list lists nodes token kind fits = refl
 
 after_fits : (limits : Limits) (list : OpenList) (lists : List OpenList) (nodes : ℕ) (token : Lexeme) (kind : TokenKind)
     → Fits limits (list ∷ lists) None nodes (length (list ∷ lists))
-    → StepFits limits token (after_option list lists nodes token kind) (open_after (length (list ∷ lists)) kind)
+    → StepFits limits token (after_option limits list lists nodes token kind) (open_after (length (list ∷ lists)) kind)
 after_fits limits list lists nodes token tokens.Right fits = close_fits limits list lists nodes token fits
 after_fits limits list lists nodes token tokens.Option fits = option_fits limits list lists nodes token fits
 after_fits limits list lists nodes token kind fits = refl
@@ -181,7 +181,7 @@ operands_fits limits list lists nodes token kind count tokens.Term fits =
     unless_fits limits (nat_le (most_operands limits kind) count) token 35 (begin_term limits (list ∷ lists) nodes token) _
     (begin_term_fits limits (list ∷ lists) nodes token fits)
 operands_fits limits list lists nodes token kind count tokens.Right fits =
-    unless_fits limits (nat_lt count (least_operands kind)) token 35 (close list lists nodes token) _
+    unless_fits limits (nat_lt count (least_operands kind)) token 35 (close limits list lists nodes token) _
     (close_fits limits list lists nodes token fits)
 operands_fits limits list lists nodes token kind count tokens.Option fits =
     unless_fits limits (nat_lt count (least_operands kind)) token 35 (option_token list lists nodes token) _

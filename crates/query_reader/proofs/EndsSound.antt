@@ -5,8 +5,7 @@ use Rattle.uni_base.specs.declared.limits.Limits.{Limits}
 use Rattle.query_tree.specs.declared.kind.ListKind.{ListKind}
 use Rattle.query_tree.specs.declared.kind.ListKind.TheVariants.{And, Or, Difference, WeakAnd, StrongOr}
 use Rattle.query_tree.specs.Tree.{Tree, term_at, list_at, join_at}
-use Rattle.query_tree.specs.Text.{default_limit}
-use Rattle.query_tree.specs.Within.{IsOperandCount, operand_count}
+use Rattle.query_tree.specs.Within.{IsOperandCount, limit_unless_given, operand_count}
 use Rattle.query_reader.specs.declared.token.TokenKind.TheVariants as tokens
 use Rattle.query_reader.specs.Reading.{Lexeme, Part, operator_due, term_due, term_read, operands_read, prefix_due, node_due, node_read, OpenList, parent_kind, node_of, closed, close, least_operands, most_operands}
 use Rattle.query_reader.specs.Grammar.{OptionsSpell, NodeSpells}
@@ -24,7 +23,7 @@ count_fits limits StrongOr count least most = (omega arith, omega arith)
 pub list_node : (limits : Limits) (list : OpenList) (part : Part) (parent : Option ListKind) (left right : Lexeme) (body given : List Lexeme)
     → (left.kind ≡ tokens.Left) × (left.column ≡ list.column) → PartSpells limits part body
     → Endable limits part list.mark list.limit parent given → right.kind ≡ tokens.Right
-    → (node : Tree) × ((node_of list part ≡ Some node) × NodeSpells limits node list.mark ((left ∷ (body ++ given)) ++ right ∷ []))
+    → (node : Tree) × ((node_of limits list part ≡ Some node) × NodeSpells limits node list.mark ((left ∷ (body ++ given)) ++ right ∷ []))
 list_node limits list operator_due parent left right body given is_left spells endable is_right = absurd endable.ends
 list_node limits list term_due parent left right body given is_left spells endable is_right = absurd endable.ends
 list_node limits list (term_read column type_name key) parent left right body given is_left spells endable is_right =
@@ -39,7 +38,7 @@ list_node limits list (operands_read kind forest) parent left right body given i
 list_node limits list (prefix_due join) parent left right body given is_left spells endable is_right = absurd endable.ends
 list_node limits list (node_due join column type_name) parent left right body given is_left spells endable is_right = absurd endable.ends
 list_node limits list (node_read join column type_name node) parent left right body given is_left spells endable is_right = (
-  join_at list.column join column type_name (unwrap_or list.limit default_limit) node,
+  join_at list.column join column type_name (unwrap_or list.limit (limit_unless_given limits)) node,
   (refl, (list.limit, (refl, (left, (body, (given, (right, (refl, is_left, spells, endable.spelled, is_right)))))))),
 )
 
@@ -47,7 +46,7 @@ pub close_holds : (limits : Limits) (list : OpenList) (lists : List OpenList) (n
     (left : Lexeme) (body given outer own : List Lexeme)
     → own ≡ left ∷ (body ++ given) → (left.kind ≡ tokens.Left) × (left.column ≡ list.column) → PartSpells limits list.part body
     → Endable limits list.part list.mark list.limit (parent_kind lists) given → Waiting limits lists outer → token.kind ≡ tokens.Right
-    → Holds limits (close list lists nodes token) (outer ++ (own ++ token ∷ []))
+    → Holds limits (close limits list lists nodes token) (outer ++ (own ++ token ∷ []))
 close_holds limits list lists nodes token left body given outer own is_own is_left spells endable waiting is_right =
     let ended = list_node limits list list.part (parent_kind lists) left token body given is_left spells endable is_right in
     let spelled : NodeSpells limits ended.0 list.mark (own ++ token ∷ []) =

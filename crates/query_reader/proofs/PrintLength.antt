@@ -61,8 +61,7 @@ limit_if_short limit false small =
     omega (arith, length-append (codes " :limit ") (decimal limit), number_short limit small)
 
 join_limit_small : (limits : Limits) (limit : ℕ) → limits.join_limit ≤ 1000000 → IsJoinLimit limits limit → limit ≤ 1000000
-join_limit_small limits limit small (inl within) = omega (arith, within.1)
-join_limit_small limits limit small (inr default) = omega (arith, default)
+join_limit_small limits limit small allowed = omega (arith, allowed.1)
 
 list_name_short : (kind : ListKind) → length (list_name kind) ≤ 10
 list_name_short lists.And = omega arith

@@ -27,7 +27,7 @@ end_holds : (limits : Limits) (list : OpenList) (lists : List OpenList) (nodes :
     (body given outer own : List Lexeme) (kind : TokenKind) → token.kind ≡ kind
     → own ≡ left ∷ (body ++ given) → (left.kind ≡ tokens.Left) × (left.column ≡ list.column) → PartSpells limits list.part body
     → Endable limits list.part list.mark list.limit (parent_kind lists) given → Waiting limits lists outer
-    → Holds limits (end_token list lists nodes token kind) (outer ++ (own ++ token ∷ []))
+    → Holds limits (end_token limits list lists nodes token kind) (outer ++ (own ++ token ∷ []))
 end_holds limits list lists nodes token left body given outer own tokens.Right is_kind is_own is_left spells endable waiting =
     close_holds limits list lists nodes token left body given outer own is_own is_left spells endable waiting is_kind
 end_holds limits list lists nodes token left body given outer own tokens.Option is_kind is_own is_left spells endable waiting =
@@ -43,7 +43,7 @@ after_holds : (limits : Limits) (list : OpenList) (lists : List OpenList) (nodes
     (body given outer own : List Lexeme) (kind : TokenKind) → token.kind ≡ kind
     → own ≡ left ∷ (body ++ given) → (left.kind ≡ tokens.Left) × (left.column ≡ list.column) → PartSpells limits list.part body
     → Endable limits list.part list.mark list.limit (parent_kind lists) given → Waiting limits lists outer
-    → Holds limits (after_option list lists nodes token kind) (outer ++ (own ++ token ∷ []))
+    → Holds limits (after_option limits list lists nodes token kind) (outer ++ (own ++ token ∷ []))
 after_holds limits list lists nodes token left body given outer own tokens.Right is_kind is_own is_left spells endable waiting =
     close_holds limits list lists nodes token left body given outer own is_own is_left spells endable waiting is_kind
 after_holds limits list lists nodes token left body given outer own tokens.Option is_kind is_own is_left spells endable waiting =
@@ -87,7 +87,7 @@ endable_bare limits list part left body own parent bare ends = record {
 
 bare_end_holds : (limits : Limits) (list : OpenList) (lists : List OpenList) (nodes : ℕ) (token left : Lexeme)
     (body outer own : List Lexeme) (part : Part) → Bare limits list part left body own → PartEnds part → Waiting limits lists outer
-    → Holds limits (end_token list lists nodes token token.kind) (outer ++ (own ++ token ∷ []))
+    → Holds limits (end_token limits list lists nodes token token.kind) (outer ++ (own ++ token ∷ []))
 bare_end_holds limits list lists nodes token left body outer own part bare ends waiting =
     end_holds limits list lists nodes token left body [] outer own token.kind refl bare.is_own bare.is_left
     (subst (λ (p : Part). PartSpells limits p body) (sym bare.is_part) bare.spells)
@@ -196,7 +196,7 @@ operands_hold limits list lists nodes token left body outer own kind forest toke
     operand_holds limits list lists nodes token left body outer own kind forest (begin_term limits (list ∷ lists) nodes token) _ refl bare waiting
     (λ waits. begin_term_holds limits (list ∷ lists) nodes token (outer ++ own) waits is_kind)
 operands_hold limits list lists nodes token left body outer own kind forest tokens.Right is_kind bare waiting =
-    enough_holds limits list lists token left body outer own kind forest (close list lists nodes token) _ refl
+    enough_holds limits list lists token left body outer own kind forest (close limits list lists nodes token) _ refl
     (λ enough. end_holds limits list lists nodes token left body [] outer own tokens.Right is_kind bare.is_own bare.is_left
     (subst (λ (p : Part). PartSpells limits p body) (sym bare.is_part) bare.spells)
     (endable_bare limits list (operands_read kind forest) left body own (parent_kind lists) bare enough) waiting)

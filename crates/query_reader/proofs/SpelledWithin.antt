@@ -14,8 +14,7 @@ use Rattle.query_tree.specs.declared.query.Query.{Query}
 use Rattle.query_tree.specs.declared.refusal.QueryRefusal.{QueryRefusal}
 use Rattle.query_tree.specs.Tree.{tree_of, Tree, Forest, term_at, list_at, join_at, no_operands, with_operand}
 use Rattle.query_tree.specs.Size.{mark_depth, tree_depth, operand_depth}
-use Rattle.query_tree.specs.Text.{default_limit}
-use Rattle.query_tree.specs.Within.{IsTypeName, IsKeyText, IsMarkUnder, IsJoinLimit, IsAllowed, AreAllowed, IsWithin}
+use Rattle.query_tree.specs.Within.{IsTypeName, IsKeyText, IsMarkUnder, IsJoinLimit, limit_unless_given, IsAllowed, AreAllowed, IsWithin}
 use Rattle.query_reader.specs.declared.token.Token.{Token}
 use Rattle.query_reader.specs.declared.token.TokenKind.{TokenKind}
 use Rattle.query_reader.specs.declared.token.TokenKind.TheVariants as kinds
@@ -210,12 +209,12 @@ options_limit : (limits : Limits) (mark : Mark) (limit : Option ℕ) (given : Li
 options_limit limits mark limit given (first, (second, (is_given, inl both))) = (second, both.1)
 options_limit limits mark limit given (first, (second, (is_given, inr both))) = (first, both.0)
 
-join_limit_is : (limits : Limits) (given : Option ℕ) (limit : ℕ) (spelled : List Lexeme) → limit ≡ unwrap_or given default_limit
+join_limit_is : (limits : Limits) → 1 ≤ limits.join_limit → (given : Option ℕ) (limit : ℕ) (spelled : List Lexeme) → limit ≡ unwrap_or given (limit_unless_given limits)
     → LimitSpells limits given spelled → IsJoinLimit limits limit
-join_limit_is limits None limit spelled is_limit spells = inr is_limit
-join_limit_is limits (Some n) limit spelled is_limit (name, (value, (is_spelled, is_name, is_value))) =
+join_limit_is limits some None limit spelled is_limit spells = (omega (arith, is_limit), omega (arith, is_limit))
+join_limit_is limits some (Some n) limit spelled is_limit (name, (value, (is_spelled, is_name, is_value))) =
     let bounds = range 1 limits.join_limit (number_of value.bytes) n is_value.1 in
-    inl (omega (arith, bounds.0), omega (arith, bounds.1))
+    (omega (arith, bounds.0), omega (arith, bounds.1))
 
 -- a mark is spelled where its node is
 node_mark : (limits : Limits) (node : Tree) (mark : Mark) (spelled : List Lexeme) → NodeSpells limits node mark spelled
@@ -234,33 +233,33 @@ body_formed left right body given spelled is_spelled formed =
     formed-front body given (formed-front (left ∷ (body ++ given)) (right ∷ []) (subst AreFormed is_spelled formed)).1
 
 mutual
-  node_allowed : (limits : Limits) (node : Tree) (mark : Mark) (spelled : List Lexeme)
+  node_allowed : (limits : Limits) → 1 ≤ limits.join_limit → (node : Tree) (mark : Mark) (spelled : List Lexeme)
       → NodeSpells limits node mark spelled → AreFormed spelled → IsAllowed limits node
-  node_allowed limits (term_at column type_name key) mark spelled (inl (plain, (token, (is_spelled, is_term)))) formed =
+  node_allowed limits some (term_at column type_name key) mark spelled (inl (plain, (token, (is_spelled, is_term)))) formed =
       term_words column type_name key token (subst AreFormed is_spelled formed).0 is_term
-  node_allowed limits (term_at column type_name key) mark spelled (inr (outer, (left, (body, (given, (right, (is_spelled, is_left, (name, (term, (is_body, is_name, is_term))), opts, is_right))))))) formed =
+  node_allowed limits some (term_at column type_name key) mark spelled (inr (outer, (left, (body, (given, (right, (is_spelled, is_left, (name, (term, (is_body, is_name, is_term))), opts, is_right))))))) formed =
       let inside = subst AreFormed is_body (body_formed left right body given spelled is_spelled formed) in
       term_words column type_name key term inside.1.0 is_term
-  node_allowed limits (list_at column kind forest) mark spelled (few, (left, (body, (given, (right, (is_spelled, is_left, (name, (inner, (is_body, is_name, forest_spells))), opts, is_right)))))) formed =
+  node_allowed limits some (list_at column kind forest) mark spelled (few, (left, (body, (given, (right, (is_spelled, is_left, (name, (inner, (is_body, is_name, forest_spells))), opts, is_right)))))) formed =
       let inside = subst AreFormed is_body (body_formed left right body given spelled is_spelled formed) in
-      (few, forest_allowed limits kind forest inner forest_spells inside.1)
-  node_allowed limits (join_at column join type_column type_name limit node) mark spelled (limit_given, (is_limit, (left, (body, (given, (right, (is_spelled, is_left, (name, (prefix, (inner, (is_body, is_name, is_prefix, node_spells)))), opts, is_right))))))) formed =
+      (few, forest_allowed limits some kind forest inner forest_spells inside.1)
+  node_allowed limits some (join_at column join type_column type_name limit node) mark spelled (limit_given, (is_limit, (left, (body, (given, (right, (is_spelled, is_left, (name, (prefix, (inner, (is_body, is_name, is_prefix, node_spells)))), opts, is_right))))))) formed =
       let inside = subst AreFormed is_body (body_formed left right body given spelled is_spelled formed) in
       let spells = options_limit limits mark limit_given given opts in (
         prefix_word type_column type_name prefix inside.1.0 is_prefix,
-        join_limit_is limits limit_given limit spells.0 is_limit spells.1,
-        node_allowed limits node Plain inner node_spells inside.1.1,
+        join_limit_is limits some limit_given limit spells.0 is_limit spells.1,
+        node_allowed limits some node Plain inner node_spells inside.1.1,
       )
 
-  forest_allowed : (limits : Limits) (kind : ListKind) (forest : Forest) (spelled : List Lexeme)
+  forest_allowed : (limits : Limits) → 1 ≤ limits.join_limit → (kind : ListKind) (forest : Forest) (spelled : List Lexeme)
       → ForestSpells limits kind forest spelled → AreFormed spelled → AreAllowed limits kind forest
-  forest_allowed limits kind no_operands spelled nothing formed = tt
-  forest_allowed limits kind (with_operand node mark others) spelled (front, (back, (is_spelled, may, node_spells, others_spell))) formed =
+  forest_allowed limits some kind no_operands spelled nothing formed = tt
+  forest_allowed limits some kind (with_operand node mark others) spelled (front, (back, (is_spelled, may, node_spells, others_spell))) formed =
       let both = subst AreFormed is_spelled formed in
       let marked = node_mark limits node mark front node_spells in (
         mark_under kind mark marked.0 may marked.1,
-        node_allowed limits node mark front node_spells (formed-front front back both),
-        forest_allowed limits kind others back others_spell (formed-back front back both),
+        node_allowed limits some node mark front node_spells (formed-front front back both),
+        forest_allowed limits some kind others back others_spell (formed-back front back both),
       )
 
 -- a tree is no deeper than the parentheses of its tokens
@@ -327,11 +326,11 @@ mutual
       omega (arith, most-append count front back, node_deep limits node mark front node_spells count, forest_deep limits kind others back others_spell count)
 
 -- so a text's query is within the limits
-pub spelled_within : (limits : Limits) (text : List ℕ) (tree : Tree) → QuerySpells limits text tree → IsWithin limits tree
-spelled_within limits text tree spells =
+pub spelled_within : (limits : Limits) → 1 ≤ limits.join_limit → (text : List ℕ) (tree : Tree) → QuerySpells limits text tree → IsWithin limits tree
+spelled_within limits some text tree spells =
     let spelled : List Lexeme = map (lexeme_of text) spells.lexed in
     record {
-      allowed = node_allowed limits tree Plain (map (lexeme_of text) spells.lexed) spells.spelled
+      allowed = node_allowed limits some tree Plain (map (lexeme_of text) spells.lexed) spells.spelled
           (lexemes_formed text 0 text spells.lexed refl (text_spans text spells.lexed spells.of_text));
       depth = omega (arith, node_deep limits tree Plain (map (lexeme_of text) spells.lexed) spells.spelled 0, spells.depth);
       nodes = spells.nodes;
@@ -341,7 +340,7 @@ pub spelled_is_within : SpelledIsWithin
 spelled_is_within = record { within = spelled_within }
 
 -- and so is an answer that is right
-pub answer_within : (limits : Limits) (text : List ℕ) (answer : Result Query QueryRefusal)
+pub answer_within : (limits : Limits) → 1 ≤ limits.join_limit → (text : List ℕ) (answer : Result Query QueryRefusal)
     → IsAnswer (text_read limits text) answer → IfOk answer (λ query. IsWithin limits (tree_of query))
-answer_within limits text (Ok query) is_answer = spelled_within limits text (tree_of query) (text_sound limits text (tree_of query) is_answer)
-answer_within limits text (Err refusal) is_answer = tt
+answer_within limits some text (Ok query) is_answer = spelled_within limits some text (tree_of query) (text_sound limits text (tree_of query) is_answer)
+answer_within limits some text (Err refusal) is_answer = tt

@@ -53,41 +53,41 @@ enough count least h =
 
 -- the step of an end, and of an option, in a list that may end
 pub right_by_part : (limits : Limits) (list : OpenList) (lists : List OpenList) (nodes : ℕ) (token : Lexeme) (part : Part)
-    → PartEnds part → token.kind ≡ tokens.Right → part_token limits list lists nodes token part ≡ close list lists nodes token
+    → PartEnds part → token.kind ≡ tokens.Right → part_token limits list lists nodes token part ≡ close limits list lists nodes token
 right_by_part limits list lists nodes token operator_due ends is_right = absurd ends
 right_by_part limits list lists nodes token term_due ends is_right = absurd ends
 right_by_part limits list lists nodes token (term_read column type_name key) ends is_right =
-    ap (λ (k : TokenKind). end_token list lists nodes token k) is_right
+    ap (λ (k : TokenKind). end_token limits list lists nodes token k) is_right
 right_by_part limits list lists nodes token (operands_read kind forest) ends is_right =
     ap (λ (k : TokenKind). operands_token limits list lists nodes token kind (operand_count forest) k) is_right
-    ∙ ap (λ (b : Bool). cond b (refuse 35 token) (close list lists nodes token)) (enough (operand_count forest) (least_operands kind) ends)
+    ∙ ap (λ (b : Bool). cond b (refuse 35 token) (close limits list lists nodes token)) (enough (operand_count forest) (least_operands kind) ends)
 right_by_part limits list lists nodes token (prefix_due join) ends is_right = absurd ends
 right_by_part limits list lists nodes token (node_due join column type_name) ends is_right = absurd ends
 right_by_part limits list lists nodes token (node_read join column type_name node) ends is_right =
-    ap (λ (k : TokenKind). end_token list lists nodes token k) is_right
+    ap (λ (k : TokenKind). end_token limits list lists nodes token k) is_right
 
 pub option_by_part : (limits : Limits) (list : OpenList) (lists : List OpenList) (nodes : ℕ) (token : Lexeme) (part : Part)
     → PartEnds part → token.kind ≡ tokens.Option → part_token limits list lists nodes token part ≡ option_token list lists nodes token
 option_by_part limits list lists nodes token operator_due ends is_option = absurd ends
 option_by_part limits list lists nodes token term_due ends is_option = absurd ends
 option_by_part limits list lists nodes token (term_read column type_name key) ends is_option =
-    ap (λ (k : TokenKind). end_token list lists nodes token k) is_option
+    ap (λ (k : TokenKind). end_token limits list lists nodes token k) is_option
 option_by_part limits list lists nodes token (operands_read kind forest) ends is_option =
     ap (λ (k : TokenKind). operands_token limits list lists nodes token kind (operand_count forest) k) is_option
     ∙ ap (λ (b : Bool). cond b (refuse 35 token) (option_token list lists nodes token)) (enough (operand_count forest) (least_operands kind) ends)
 option_by_part limits list lists nodes token (prefix_due join) ends is_option = absurd ends
 option_by_part limits list lists nodes token (node_due join column type_name) ends is_option = absurd ends
 option_by_part limits list lists nodes token (node_read join column type_name node) ends is_option =
-    ap (λ (k : TokenKind). end_token list lists nodes token k) is_option
+    ap (λ (k : TokenKind). end_token limits list lists nodes token k) is_option
 
 pub right_step : (limits : Limits) (at : ℕ) (part : Part) (mark : Mark) (limit : Option ℕ) (tail : Tail) (lists : List OpenList) (nodes : ℕ) (token : Lexeme)
     → IsSettled tail → PartEnds part → token.kind ≡ tokens.Right
-    → step_in limits (list_with at part mark limit tail ∷ lists) None nodes token ≡ close (list_with at part mark limit tail) lists nodes token
+    → step_in limits (list_with at part mark limit tail ∷ lists) None nodes token ≡ close limits (list_with at part mark limit tail) lists nodes token
 right_step limits at part mark limit tails.NoOption lists nodes token settled ends is_right =
     right_by_part limits (list_with at part mark limit tails.NoOption) lists nodes token part ends is_right
 right_step limits at part mark limit (tails.ValueDue name) lists nodes token settled ends is_right = absurd settled
 right_step limits at part mark limit tails.OptionRead lists nodes token settled ends is_right =
-    ap (λ (k : TokenKind). after_option (list_with at part mark limit tails.OptionRead) lists nodes token k) is_right
+    ap (λ (k : TokenKind). after_option limits (list_with at part mark limit tails.OptionRead) lists nodes token k) is_right
 
 pub name_step : (limits : Limits) (at : ℕ) (part : Part) (mark : Mark) (limit : Option ℕ) (tail : Tail) (lists : List OpenList) (nodes : ℕ) (token : Lexeme) (name : OptionName)
     → IsSettled tail → PartEnds part → IsOption name token → may_take name (list_with at part mark limit tail) (parent_kind lists) ≡ true
@@ -101,7 +101,7 @@ name_step limits at part mark limit tail lists nodes token name settled ends (is
         → step_in limits (list_with at part mark limit tail ∷ lists) None nodes token ≡ option_token (list_with at part mark limit tail) lists nodes token
     named tails.NoOption settled = option_by_part limits (list_with at part mark limit tails.NoOption) lists nodes token part ends is_kind
     named (tails.ValueDue other) settled = absurd settled
-    named tails.OptionRead settled = ap (λ (k : TokenKind). after_option (list_with at part mark limit tails.OptionRead) lists nodes token k) is_kind
+    named tails.OptionRead settled = ap (λ (k : TokenKind). after_option limits (list_with at part mark limit tails.OptionRead) lists nodes token k) is_kind
 
 pub hits_may_take : (list : OpenList) (parent : Option ListKind) (count : ℕ) → list.mark ≡ Plain → MayHave parent (Hits count) → may_take options.Hits list parent ≡ true
 hits_may_take list None count was may = absurd may
@@ -178,7 +178,7 @@ limit_read limits column at part mark (Some limit) tail lists nodes spelled rest
 -- options and the end of a list
 pub rest_read : (limits : Limits) (column at : ℕ) (part : Part) (mark : Mark) (limit : Option ℕ) (lists : List OpenList) (nodes : ℕ) (given rest : List Lexeme) (right : Lexeme) (node : Tree)
     → PartEnds part → MayHave (parent_kind lists) mark → MayLimit part limit → OptionsSpell limits mark limit given → right.kind ≡ tokens.Right
-    → ((tail : Tail) → node_of (list_with at part mark limit tail) part ≡ Some node)
+    → ((tail : Tail) → node_of limits (list_with at part mark limit tail) part ≡ Some node)
     → From limits column (bare_list at part ∷ lists) nodes (given ++ right ∷ rest) ≡ After limits column (deliver lists nodes node mark) rest
 rest_read limits column at part mark limit lists nodes given rest right node ends may may_limit (first, (second, (is_given, inl (mark_spells, limit_spells)))) is_right is_node =
     let one = mark_read limits column at part mark None tails.NoOption lists nodes first (second ++ right ∷ rest) tt ends may mark_spells in

@@ -10,7 +10,7 @@ use Rattle.query_tree.specs.declared.kind.JoinKind.TheVariants as joins
 use Rattle.query_tree.specs.declared.query.Mark.{Mark}
 use Rattle.query_tree.specs.declared.query.Mark.TheVariants.{Plain, Hits, Weight}
 use Rattle.query_tree.specs.Text.{list_name, join_name, mark_text, default_limit, limit_text, pair_text}
-use Rattle.query_tree.specs.Within.{IsTypeName, IsKeyText, IsMarkUnder, IsJoinLimit}
+use Rattle.query_tree.specs.Within.{IsTypeName, IsKeyText, IsMarkUnder, IsJoinLimit, limit_unless_given}
 use Rattle.query_reader.specs.declared.token.TokenKind.{TokenKind}
 use Rattle.query_reader.specs.declared.token.TokenKind.TheVariants as kinds
 use Rattle.query_reader.specs.declared.operator.Operator.TheVariants as operators
@@ -126,7 +126,7 @@ mark_written whole at (Weight n d) rest value is_here ends =
 -- a limit's tokens
 pub record LimitWritten (limits : Limits) (whole : List ℕ) (at limit : ℕ) (rest : List ℕ) : Type 0 where
   pub given : Option ℕ
-  pub is_limit : limit ≡ unwrap_or given default_limit
+  pub is_limit : limit ≡ unwrap_or given (limit_unless_given limits)
   pub lexemes : List Lexeme
   pub segment : Segment whole at (limit_text limit) rest lexemes
   pub spelled : LimitSpells limits given lexemes
@@ -142,12 +142,6 @@ ends_limit_if limit false rest ends = refl
 pub ends_limit : (limit : ℕ) (rest : List ℕ) → Ends rest → Ends (limit_text limit ++ rest)
 ends_limit limit rest ends = ends_limit_if limit (limit == default_limit) rest ends
 
-other_limit : (limits : Limits) (limit : ℕ) → IsJoinLimit limits limit → (limit == default_limit) ≡ false
-    → (1 ≤ limit) × (limit ≤ limits.join_limit)
-other_limit limits limit (inl within) other = within
-other_limit limits limit (inr same) other =
-    let is_default : (limit == default_limit) ≡ true = ap (λ n. n == default_limit) same in absurd (cc)
-
 pub limit_written : (limits : Limits) (whole : List ℕ) (at limit : ℕ) (rest : List ℕ) → limits.join_limit ≤ 1000000
     → IsJoinLimit limits limit → drop at whole ≡ limit_text limit ++ rest → Ends rest → LimitWritten limits whole at limit rest
 limit_written limits whole at limit rest small allowed is_here ends =
@@ -156,14 +150,14 @@ limit_written limits whole at limit rest small allowed is_here ends =
           let same : [] ≡ limit_text limit = sym (ap (limit_text_if limit) default.0) in
           record {
             given = None;
-            is_limit = default.1;
+            is_limit = omega (arith, default.1, allowed.1);
             lexemes = [];
             segment = as_text whole at [] (limit_text limit) rest [] same (nothing whole at rest);
             spelled = refl;
             deep = λ count. omega arith;
           }
       | inr other ↦
-          let within = other_limit limits limit allowed other.0 in
+          let within = allowed in
           let same : codes " :limit " ++ decimal limit ≡ limit_text limit = sym (ap (limit_text_if limit) other.0) in
           let split = parts whole at (codes " :limit ") (decimal limit) rest (is_here ∙ ap (λ xs. xs ++ rest) (sym same)) in
           let name : Lexeme = lexeme (at + 1) kinds.Option (codes ":limit") in

@@ -9,8 +9,7 @@ use Rattle.query_tree.specs.declared.refusal.QueryRefusal.{QueryRefusal}
 use Rattle.query_tree.specs.declared.refusal.QueryRefusal.TheVariants.{Fault, Memory}
 use Rattle.query_tree.specs.Tree.{Tree, Forest, term_at, list_at, join_at, no_operands, with_operand}
 use Rattle.query_tree.specs.Size.{node_count}
-use Rattle.query_tree.specs.Text.{default_limit}
-use Rattle.query_tree.specs.Within.{IsOperandCount, operand_count}
+use Rattle.query_tree.specs.Within.{limit_unless_given, IsOperandCount, operand_count}
 use Rattle.query_reader.specs.declared.token.Token.{Token}
 use Rattle.query_reader.specs.declared.token.TokenKind.TheVariants as tokens
 use Rattle.query_reader.specs.declared.operator.Operator.{Operator}
@@ -109,7 +108,7 @@ abbrev mutual
       × IsOperator (operators.List kind) name × ForestSpells limits kind forest inner)))
       spelled
   NodeSpells limits (join_at column join type_column type_name limit node) mark spelled =
-      (given : Option ℕ) × ((limit ≡ unwrap_or given default_limit)
+      (given : Option ℕ) × ((limit ≡ unwrap_or given (limit_unless_given limits))
       × Enclosed limits column mark given
       (λ body. (name : Lexeme) × ((prefix : Lexeme) × ((inner : List Lexeme) × ((body ≡ name ∷ prefix ∷ inner)
       × IsOperator (operators.Join join) name × IsPrefix type_column type_name prefix

@@ -9,8 +9,7 @@ use Rattle.query_tree.specs.declared.kind.JoinKind.{JoinKind}
 use Rattle.query_tree.specs.declared.query.Mark.{Mark}
 use Rattle.query_tree.specs.declared.query.Mark.TheVariants as marks
 use Rattle.query_tree.specs.Tree.{Tree, Forest, term_at, list_at, join_at, no_operands, with_operand}
-use Rattle.query_tree.specs.Text.{default_limit}
-use Rattle.query_tree.specs.Within.{operand_count}
+use Rattle.query_tree.specs.Within.{limit_unless_given, operand_count}
 use Rattle.query_reader.specs.declared.token.Token.{Token}
 use Rattle.query_reader.specs.declared.token.TokenKind.{TokenKind}
 use Rattle.query_reader.specs.declared.token.TokenKind.TheVariants as tokens
@@ -230,27 +229,27 @@ value_token limits list lists nodes token options.Hits = with_mark list lists no
 value_token limits list lists nodes token options.Weight = with_mark list lists nodes token (weight_value token token.kind)
 
 -- the node of a list that may end
-abbrev pub node_of : OpenList → Part → Option Tree
-node_of list (term_read column type_name key) = Some (term_at column type_name key)
-node_of list (operands_read kind forest) = Some (list_at list.column kind forest)
-node_of list (node_read join column type_name node) =
-    Some (join_at list.column join column type_name (unwrap_or list.limit default_limit) node)
-node_of list part = None
+abbrev pub node_of : Limits → OpenList → Part → Option Tree
+node_of limits list (term_read column type_name key) = Some (term_at column type_name key)
+node_of limits list (operands_read kind forest) = Some (list_at list.column kind forest)
+node_of limits list (node_read join column type_name node) =
+    Some (join_at list.column join column type_name (unwrap_or list.limit (limit_unless_given limits)) node)
+node_of limits list part = None
 
 abbrev pub closed : OpenList → List OpenList → ℕ → Lexeme → Option Tree → Result State Refused
 closed list lists nodes token None = refuse 36 token
 closed list lists nodes token (Some node) = deliver lists nodes node list.mark
 
-abbrev pub close : OpenList → List OpenList → ℕ → Lexeme → Result State Refused
-close list lists nodes token = closed list lists nodes token (node_of list list.part)
+abbrev pub close : Limits → OpenList → List OpenList → ℕ → Lexeme → Result State Refused
+close limits list lists nodes token = closed list lists nodes token (node_of limits list list.part)
 
 -- the list may end here
-abbrev pub end_token : OpenList → List OpenList → ℕ → Lexeme → TokenKind → Result State Refused
-end_token list lists nodes token tokens.Right = close list lists nodes token
-end_token list lists nodes token tokens.Option = option_token list lists nodes token
-end_token list lists nodes token tokens.Left = refuse 35 token
-end_token list lists nodes token tokens.Term = refuse 35 token
-end_token list lists nodes token kind = refuse 31 token
+abbrev pub end_token : Limits → OpenList → List OpenList → ℕ → Lexeme → TokenKind → Result State Refused
+end_token limits list lists nodes token tokens.Right = close limits list lists nodes token
+end_token limits list lists nodes token tokens.Option = option_token list lists nodes token
+end_token limits list lists nodes token tokens.Left = refuse 35 token
+end_token limits list lists nodes token tokens.Term = refuse 35 token
+end_token limits list lists nodes token kind = refuse 31 token
 
 -- the least and the greatest number of operands
 abbrev pub least_operands : ListKind → ℕ
@@ -268,34 +267,34 @@ operands_token limits list lists nodes token kind count tokens.Left =
 operands_token limits list lists nodes token kind count tokens.Term =
     if nat_le (most_operands limits kind) count then refuse 35 token else begin_term limits (list ∷ lists) nodes token
 operands_token limits list lists nodes token kind count tokens.Right =
-    if nat_lt count (least_operands kind) then refuse 35 token else close list lists nodes token
+    if nat_lt count (least_operands kind) then refuse 35 token else close limits list lists nodes token
 operands_token limits list lists nodes token kind count tokens.Option =
     if nat_lt count (least_operands kind) then refuse 35 token else option_token list lists nodes token
 operands_token limits list lists nodes token kind count other = refuse 31 token
 
 -- after an option and its value only another one or the end may stand
-abbrev pub after_option : OpenList → List OpenList → ℕ → Lexeme → TokenKind → Result State Refused
-after_option list lists nodes token tokens.Option = option_token list lists nodes token
-after_option list lists nodes token tokens.Right = close list lists nodes token
-after_option list lists nodes token kind = refuse 36 token
+abbrev pub after_option : Limits → OpenList → List OpenList → ℕ → Lexeme → TokenKind → Result State Refused
+after_option limits list lists nodes token tokens.Option = option_token list lists nodes token
+after_option limits list lists nodes token tokens.Right = close limits list lists nodes token
+after_option limits list lists nodes token kind = refuse 36 token
 
 abbrev pub part_token : Limits → OpenList → List OpenList → ℕ → Lexeme → Part → Result State Refused
 part_token limits list lists nodes token operator_due = operator_token list lists nodes token token.kind
 part_token limits list lists nodes token term_due = term_token list lists nodes token token.kind
 part_token limits list lists nodes token (term_read column type_name key) =
-    end_token list lists nodes token token.kind
+    end_token limits list lists nodes token token.kind
 part_token limits list lists nodes token (operands_read kind forest) =
     operands_token limits list lists nodes token kind (operand_count forest) token.kind
 part_token limits list lists nodes token (prefix_due join) = prefix_token list lists nodes token join token.kind
 part_token limits list lists nodes token (node_due join column type_name) =
     node_token limits (list ∷ lists) nodes token 35 token.kind
 part_token limits list lists nodes token (node_read join column type_name node) =
-    end_token list lists nodes token token.kind
+    end_token limits list lists nodes token token.kind
 
 abbrev pub tail_token : Limits → OpenList → List OpenList → ℕ → Lexeme → Tail → Result State Refused
 tail_token limits list lists nodes token tails.NoOption = part_token limits list lists nodes token list.part
 tail_token limits list lists nodes token (tails.ValueDue name) = value_token limits list lists nodes token name
-tail_token limits list lists nodes token tails.OptionRead = after_option list lists nodes token token.kind
+tail_token limits list lists nodes token tails.OptionRead = after_option limits list lists nodes token token.kind
 
 -- outside of all lists one node is due, and nothing after it
 abbrev pub outer_token : Limits → Option Tree → ℕ → Lexeme → Result State Refused

@@ -1,5 +1,5 @@
 -- Laws of queries and their texts.
-use Rattle.std.specs.Prelude.{ℕ, ◌≡◌, ◌⊎◌, List}
+use Rattle.std.specs.Prelude.{ℕ, ◌≡◌, ◌≤◌, ◌⊎◌, List}
 use Rattle.uni_base.specs.declared.limits.Limits.{Limits}
 use Rattle.query_tree.specs.Tree.{Tree}
 use Rattle.query_tree.specs.Within.{IsWithin}
@@ -22,6 +22,6 @@ pub record OneQueryOrFault : Type 0 where
       (limits : Limits) → (text : List ℕ) → (tree : Tree) → (code : ℕ) → (column : ℕ)
       → QuerySpells limits text tree → QueryFault limits text code column → ⊥
 
--- a text's query is within the limits
+-- a text's query is within the limits, where a join may have a hit
 pub record SpelledIsWithin : Type 0 where
-  pub within : (limits : Limits) → (text : List ℕ) → (tree : Tree) → QuerySpells limits text tree → IsWithin limits tree
+  pub within : (limits : Limits) → 1 ≤ limits.join_limit → (text : List ℕ) → (tree : Tree) → QuerySpells limits text tree → IsWithin limits tree

@@ -147,15 +147,16 @@ fn with_mark(
 
 /// Reads what stands where a list may end.
 pub fn end_token(
+    limits: &Limits,
     list: OpenList,
     lists: Vec<OpenList>,
     nodes: u64,
     token: &Lexeme<'_>,
 ) -> Result<State, QueryRefusal>
-    ensures { IsStep (end_token (open_of list) (all_open lists.items) nodes (token_of token.now) token.now.kind) result }
+    ensures { IsStep (end_token limits.now (open_of list) (all_open lists.items) nodes (token_of token.now) token.now.kind) result }
 {
     match token.kind {
-        TokenKind::Right => close(list, lists, nodes, token),
+        TokenKind::Right => close(limits, list, lists, nodes, token),
         TokenKind::Option => option_token(list, lists, nodes, token),
         TokenKind::Left | TokenKind::Term => refused(OPERAND_COUNT, token),
         _ => refused(BAD_TOKEN, token),
@@ -164,15 +165,16 @@ pub fn end_token(
 
 /// Reads what stands after an option and its value.
 pub fn after_option(
+    limits: &Limits,
     list: OpenList,
     lists: Vec<OpenList>,
     nodes: u64,
     token: &Lexeme<'_>,
 ) -> Result<State, QueryRefusal>
-    ensures { IsStep (after_option (open_of list) (all_open lists.items) nodes (token_of token.now) token.now.kind) result }
+    ensures { IsStep (after_option limits.now (open_of list) (all_open lists.items) nodes (token_of token.now) token.now.kind) result }
 {
     match token.kind {
-        TokenKind::Right => close(list, lists, nodes, token),
+        TokenKind::Right => close(limits, list, lists, nodes, token),
         TokenKind::Option => option_token(list, lists, nodes, token),
         _ => refused(BAD_OPTION, token),
     }

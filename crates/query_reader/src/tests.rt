@@ -257,6 +257,26 @@ fn limits_of_a_query(rt: HostRuntime) -> Result<(), Fail> {
     Ok(())
 }
 
+// A join without a limit has the greatest, where that is below the default.
+#[test]
+fn a_small_limit_of_joins(rt: HostRuntime) -> Result<(), Fail> {
+    let few = Limits {
+        join_limit: 5,
+        ..Limits::standard()
+    };
+    for (text, expected) in [
+        ("(apply a: b:1)", "(apply a: b:1 :limit 5)"),
+        ("(apply a: b:1 :limit 5)", "(apply a: b:1 :limit 5)"),
+        ("(apply a: b:1 :limit 4)", "(apply a: b:1 :limit 4)"),
+    ] {
+        let printed = print(&rt, rt.alloc(), &few, text.as_bytes())?;
+        assert!(rt; printed.as_slice() == expected.as_bytes(), "{text}");
+    }
+    let more = b"(apply a: b:1 :limit 6)";
+    assert_eq!(rt; fault(&rt, rt.alloc(), &few, more)?, Some((36, 22)));
+    Ok(())
+}
+
 #[test]
 fn nodes_of_a_query(rt: HostRuntime) -> Result<(), Fail> {
     let alloc = rt.alloc();

@@ -11,4 +11,4 @@ returns-clause-spells c tree spells =
     answer_complete c.args.limits.now c.args.text.now c.read.result tree c.read.ensures spells
 
 pub returns-clause-within : goal.returns-clause-within
-returns-clause-within c = answer_within c.args.limits.now c.args.text.now c.read.result c.read.ensures
+returns-clause-within c = answer_within c.args.limits.now c.requires.limits.some_join c.args.text.now c.read.result c.read.ensures
