@@ -1,127 +1,22 @@
--- Ends of lists and options, as the reading stands for them.
-use Rattle.std.proofs.Common.{◌≡◌, ℕ, ◌≤◌, Bool, true, false, List, [], ◌∷◌, ◌++◌, Option, None, Some, refl, sym, ap, ◌∙◌, subst, arith, cond, inl, inr, append_assoc, append-nil}
-use Rattle.std.specs.Prelude.{unwrap_or, ◌&&◌, is_none}
+-- Options, as the reading stands for them.
+use Rattle.std.proofs.Common.{◌≡◌, ℕ, Bool, true, false, List, [], ◌∷◌, ◌++◌, Option, None, Some, refl, sym, ap, ◌∙◌, subst, cond, inl, inr, append_assoc, append-nil}
+use Rattle.std.specs.Prelude.{◌&&◌, is_none}
 use Rattle.uni_base.specs.Fields.{cut_at}
 use Rattle.uni_base.specs.declared.limits.Limits.{Limits}
 use Rattle.query_tree.specs.declared.kind.ListKind.{ListKind}
 use Rattle.query_tree.specs.declared.kind.ListKind.TheVariants.{And, Or, Difference, WeakAnd, StrongOr}
 use Rattle.query_tree.specs.declared.query.Mark.{Mark}
 use Rattle.query_tree.specs.declared.query.Mark.TheVariants.{Plain, Hits, Weight}
-use Rattle.query_tree.specs.Tree.{term_at, list_at, join_at}
-use Rattle.query_tree.specs.Text.{default_limit}
-use Rattle.query_tree.specs.Within.{IsOperandCount, operand_count}
+use Rattle.query_reader.specs.declared.token.TokenKind.{TokenKind}
 use Rattle.query_reader.specs.declared.token.TokenKind.TheVariants as tokens
 use Rattle.query_reader.specs.declared.value.OptionName.{OptionName}
 use Rattle.query_reader.specs.declared.value.OptionName.TheVariants as options
 use Rattle.query_reader.specs.declared.open_list.Tail.{Tail}
 use Rattle.query_reader.specs.declared.open_list.Tail.TheVariants as tails
 use Rattle.query_reader.specs.Values.{option_of, number_within, hits_with, weight_of, weight_over, weight_under, weight_parts}
-use Rattle.query_reader.specs.Reading.{Lexeme, Part, operator_due, term_due, term_read, operands_read, prefix_due, node_due, node_read, OpenList, refuse, going_on, parent_kind, is_join, is_plain, may_take, option_found, option_token, with_limit, with_mark, value_token, node_of, closed, close, least_operands, most_operands}
+use Rattle.query_reader.specs.Reading.{Lexeme, Part, operator_due, term_due, term_read, operands_read, prefix_due, node_due, node_read, OpenList, refuse, going_on, parent_kind, is_join, is_plain, may_take, option_found, option_token, with_limit, with_mark, limit_value, hits_value, weight_value, value_token}
 use Rattle.query_reader.specs.Grammar.{IsOption, LimitSpells, MarkSpells, OptionsSpell, MayHave}
-use Rattle.query_reader.proofs.Standing.{PartSpells, LimitStands, Endable, Waiting, Holds, deliver_holds}
-
-pub count_fits : (limits : Limits) (kind : ListKind) (count : ℕ) → least_operands kind ≤ count → count ≤ most_operands limits kind
-    → IsOperandCount limits kind count
-count_fits limits And count least most = (omega arith, omega arith)
-count_fits limits Or count least most = (omega arith, omega arith)
-count_fits limits Difference count least most = omega arith
-count_fits limits WeakAnd count least most = (omega arith, omega arith)
-count_fits limits StrongOr count least most = (omega arith, omega arith)
-
--- the end of a list, by its part
-pub closed_holds : (limits : Limits) (list : OpenList) (lists : List OpenList) (nodes : ℕ) (token : Lexeme) (part : Part)
-    (left : Lexeme) (body given outer own : List Lexeme)
-    → own ≡ left ∷ (body ++ given) → (left.kind ≡ tokens.Left) × (left.column ≡ list.column) → PartSpells limits part body
-    → Endable limits part list.mark list.limit (parent_kind lists) given → Waiting limits lists outer → token.kind ≡ tokens.Right
-    → Holds limits (closed list lists nodes token (node_of list part)) (outer ++ (own ++ token ∷ []))
-closed_holds limits list lists nodes token operator_due left body given outer own is_own is_left spells endable waiting is_right = absurd endable.ends
-closed_holds limits list lists nodes token term_due left body given outer own is_own is_left spells endable waiting is_right = absurd endable.ends
-closed_holds limits list lists nodes token (term_read column type_name key) left body given outer own is_own is_left spells endable waiting is_right =
-    deliver_holds limits lists nodes (term_at column type_name key) list.mark outer (own ++ token ∷ []) waiting
-    (inr (
-      list.column,
-      (
-        left,
-        (
-          body,
-          (
-            given,
-            (
-              token,
-              (
-                ap (λ xs. xs ++ token ∷ []) is_own,
-                is_left,
-                spells,
-                subst (λ (l : Option ℕ). OptionsSpell limits list.mark l given) endable.stands endable.spelled,
-                is_right,
-              ),
-            ),
-          ),
-        ),
-      ),
-    ))
-    endable.may_have
-closed_holds limits list lists nodes token (operands_read kind forest) left body given outer own is_own is_left (name, (inner, (is_body, is_name, forest_spells, few))) endable waiting is_right =
-    deliver_holds limits lists nodes (list_at list.column kind forest) list.mark outer (own ++ token ∷ []) waiting (
-      count_fits limits kind (operand_count forest) endable.ends few,
-      (
-        left,
-        (
-          body,
-          (
-            given,
-            (
-              token,
-              (
-                ap (λ xs. xs ++ token ∷ []) is_own,
-                is_left,
-                (name, (inner, (is_body, is_name, forest_spells))),
-                subst (λ (l : Option ℕ). OptionsSpell limits list.mark l given) endable.stands endable.spelled,
-                is_right,
-              ),
-            ),
-          ),
-        ),
-      ),
-    )
-    endable.may_have
-closed_holds limits list lists nodes token (prefix_due join) left body given outer own is_own is_left spells endable waiting is_right = absurd endable.ends
-closed_holds limits list lists nodes token (node_due join column type_name) left body given outer own is_own is_left spells endable waiting is_right = absurd endable.ends
-closed_holds limits list lists nodes token (node_read join column type_name node) left body given outer own is_own is_left spells endable waiting is_right =
-    deliver_holds limits lists nodes (join_at list.column join column type_name (unwrap_or list.limit default_limit) node) list.mark outer (own ++ token ∷ []) waiting (
-      list.limit,
-      (
-        refl,
-        (
-          left,
-          (
-            body,
-            (
-              given,
-              (
-                token,
-                (
-                  ap (λ xs. xs ++ token ∷ []) is_own,
-                  is_left,
-                  spells,
-                  endable.spelled,
-                  is_right,
-                ),
-              ),
-            ),
-          ),
-        ),
-      ),
-    )
-    endable.may_have
-
-pub close_holds : (limits : Limits) (list : OpenList) (lists : List OpenList) (nodes : ℕ) (token : Lexeme)
-    (left : Lexeme) (body given outer own : List Lexeme)
-    → own ≡ left ∷ (body ++ given) → (left.kind ≡ tokens.Left) × (left.column ≡ list.column) → PartSpells limits list.part body
-    → Endable limits list.part list.mark list.limit (parent_kind lists) given → Waiting limits lists outer → token.kind ≡ tokens.Right
-    → Holds limits (close list lists nodes token) (outer ++ (own ++ token ∷ []))
-close_holds limits list lists nodes token left body given outer own is_own is_left spells endable waiting is_right =
-    closed_holds limits list lists nodes token list.part left body given outer own is_own is_left spells endable waiting is_right
+use Rattle.query_reader.proofs.Standing.{PartSpells, LimitStands, Endable, Waiting, Holds}
 
 -- whether an option may stand does not depend on what is due
 pub may_same : (name : OptionName) (list : OpenList) (parent : Option ListKind) (tail : Tail)
@@ -244,13 +139,13 @@ valued before given option token is_given = ap (λ xs. xs ++ token ∷ []) is_gi
 
 pub with_limit_holds : (limits : Limits) (list : OpenList) (lists : List OpenList) (nodes : ℕ) (token option left : Lexeme)
     (body before given outer own : List Lexeme) (value : Option ℕ)
-    → number_within 1 limits.join_limit token.bytes ≡ value
+    → token.kind ≡ tokens.Number → number_within 1 limits.join_limit token.bytes ≡ value
     → own ≡ left ∷ (body ++ given) → (left.kind ≡ tokens.Left) × (left.column ≡ list.column) → PartSpells limits list.part body
     → given ≡ before ++ option ∷ [] → IsOption options.Limit option → may_take options.Limit list (parent_kind lists) ≡ true
     → Endable limits list.part list.mark list.limit (parent_kind lists) before → Waiting limits lists outer
     → Holds limits (with_limit list lists nodes token value) (outer ++ (own ++ token ∷ []))
-with_limit_holds limits list lists nodes token option left body before given outer own None is_value is_own is_left spells is_given is_option may endable waiting = tt
-with_limit_holds limits list lists nodes token option left body before given outer own (Some limit) is_value is_own is_left spells is_given is_option may endable waiting =
+with_limit_holds limits list lists nodes token option left body before given outer own None is_kind is_value is_own is_left spells is_given is_option may endable waiting = tt
+with_limit_holds limits list lists nodes token option left body before given outer own (Some limit) is_kind is_value is_own is_left spells is_given is_option may endable waiting =
     let free = limit_may list (parent_kind lists) list.part list.limit may in (
       outer,
       (
@@ -277,7 +172,7 @@ with_limit_holds limits list lists nodes token option left body before given out
                           inl (
                             mark_alone limits list.mark before
                                 (subst (λ (l : Option ℕ). OptionsSpell limits list.mark l before) free.1 endable.spelled),
-                            (option, (token, (refl, is_option, is_value))),
+                            (option, (token, (refl, is_option, (is_kind, is_value)))),
                           ),
                         ),
                       ),
@@ -348,16 +243,16 @@ marked_holds limits list lists nodes token option left body before given outer o
 
 pub hits_hold : (limits : Limits) (list : OpenList) (lists : List OpenList) (nodes : ℕ) (token option left : Lexeme)
     (body before given outer own : List Lexeme) (count : Option ℕ)
-    → number_within 0 1000000 token.bytes ≡ count
+    → token.kind ≡ tokens.Number → number_within 0 1000000 token.bytes ≡ count
     → own ≡ left ∷ (body ++ given) → (left.kind ≡ tokens.Left) × (left.column ≡ list.column) → PartSpells limits list.part body
     → given ≡ before ++ option ∷ [] → IsOption options.Hits option → may_take options.Hits list (parent_kind lists) ≡ true
     → Endable limits list.part list.mark list.limit (parent_kind lists) before → Waiting limits lists outer
     → Holds limits (with_mark list lists nodes token (hits_with count)) (outer ++ (own ++ token ∷ []))
-hits_hold limits list lists nodes token option left body before given outer own None is_value is_own is_left spells is_given is_option may endable waiting = tt
-hits_hold limits list lists nodes token option left body before given outer own (Some count) is_value is_own is_left spells is_given is_option may endable waiting =
+hits_hold limits list lists nodes token option left body before given outer own None is_kind is_value is_own is_left spells is_given is_option may endable waiting = tt
+hits_hold limits list lists nodes token option left body before given outer own (Some count) is_kind is_value is_own is_left spells is_given is_option may endable waiting =
     let free = hits_may list (parent_kind lists) may in
     marked_holds limits list lists nodes token option left body before given outer own (Hits count)
-    (option, (token, (refl, is_option, ap hits_with is_value))) (free.0 count) free.1 is_own is_left spells is_given endable waiting
+    (option, (token, (refl, is_option, (is_kind, ap hits_with is_value)))) (free.0 count) free.1 is_own is_left spells is_given endable waiting
 
 pub weight_over_is : (denominator : ℕ) (numerator : Option ℕ) (mark : Mark) → weight_over denominator numerator ≡ Some mark
     → (n : ℕ) × ((d : ℕ) × (mark ≡ Weight n d))
@@ -377,19 +272,50 @@ weight_parts_is (Some parts) mark is_mark = weight_under_is parts.0 (number_with
 
 pub weight_holds : (limits : Limits) (list : OpenList) (lists : List OpenList) (nodes : ℕ) (token option left : Lexeme)
     (body before given outer own : List Lexeme) (mark : Option Mark)
-    → weight_of token.bytes ≡ mark
+    → token.kind ≡ tokens.Fraction → weight_of token.bytes ≡ mark
     → own ≡ left ∷ (body ++ given) → (left.kind ≡ tokens.Left) × (left.column ≡ list.column) → PartSpells limits list.part body
     → given ≡ before ++ option ∷ [] → IsOption options.Weight option → may_take options.Weight list (parent_kind lists) ≡ true
     → Endable limits list.part list.mark list.limit (parent_kind lists) before → Waiting limits lists outer
     → Holds limits (with_mark list lists nodes token mark) (outer ++ (own ++ token ∷ []))
-weight_holds limits list lists nodes token option left body before given outer own None is_value is_own is_left spells is_given is_option may endable waiting = tt
-weight_holds limits list lists nodes token option left body before given outer own (Some mark) is_value is_own is_left spells is_given is_option may endable waiting =
+weight_holds limits list lists nodes token option left body before given outer own None is_kind is_value is_own is_left spells is_given is_option may endable waiting = tt
+weight_holds limits list lists nodes token option left body before given outer own (Some mark) is_kind is_value is_own is_left spells is_given is_option may endable waiting =
     let free = weight_may list (parent_kind lists) may in
     let shape = weight_parts_is (cut_at 47 token.bytes) mark is_value in
     subst (λ (m : Mark). Holds limits (with_mark list lists nodes token (Some m)) (outer ++ (own ++ token ∷ [])))
     (sym shape.1.1)
     (marked_holds limits list lists nodes token option left body before given outer own (Weight shape.0 shape.1.0)
-    (option, (token, (refl, is_option, is_value ∙ ap Some shape.1.1))) (free.0 shape.0 shape.1.0) free.1 is_own is_left spells is_given endable waiting)
+    (option, (token, (refl, is_option, (is_kind, is_value ∙ ap Some shape.1.1)))) (free.0 shape.0 shape.1.0) free.1 is_own is_left spells is_given endable waiting)
+
+-- a value by its token's kind
+limit_by_kind : (limits : Limits) (list : OpenList) (lists : List OpenList) (nodes : ℕ) (token option left : Lexeme)
+    (body before given outer own : List Lexeme) (kind : TokenKind) → token.kind ≡ kind
+    → own ≡ left ∷ (body ++ given) → (left.kind ≡ tokens.Left) × (left.column ≡ list.column) → PartSpells limits list.part body
+    → given ≡ before ++ option ∷ [] → IsOption options.Limit option → may_take options.Limit list (parent_kind lists) ≡ true
+    → Endable limits list.part list.mark list.limit (parent_kind lists) before → Waiting limits lists outer
+    → Holds limits (with_limit list lists nodes token (limit_value limits token kind)) (outer ++ (own ++ token ∷ []))
+limit_by_kind limits list lists nodes token option left body before given outer own tokens.Number is_kind is_own is_left spells is_given is_option may endable waiting =
+    with_limit_holds limits list lists nodes token option left body before given outer own _ is_kind refl is_own is_left spells is_given is_option may endable waiting
+limit_by_kind limits list lists nodes token option left body before given outer own kind is_kind is_own is_left spells is_given is_option may endable waiting = tt
+
+hits_by_kind : (limits : Limits) (list : OpenList) (lists : List OpenList) (nodes : ℕ) (token option left : Lexeme)
+    (body before given outer own : List Lexeme) (kind : TokenKind) → token.kind ≡ kind
+    → own ≡ left ∷ (body ++ given) → (left.kind ≡ tokens.Left) × (left.column ≡ list.column) → PartSpells limits list.part body
+    → given ≡ before ++ option ∷ [] → IsOption options.Hits option → may_take options.Hits list (parent_kind lists) ≡ true
+    → Endable limits list.part list.mark list.limit (parent_kind lists) before → Waiting limits lists outer
+    → Holds limits (with_mark list lists nodes token (hits_value token kind)) (outer ++ (own ++ token ∷ []))
+hits_by_kind limits list lists nodes token option left body before given outer own tokens.Number is_kind is_own is_left spells is_given is_option may endable waiting =
+    hits_hold limits list lists nodes token option left body before given outer own _ is_kind refl is_own is_left spells is_given is_option may endable waiting
+hits_by_kind limits list lists nodes token option left body before given outer own kind is_kind is_own is_left spells is_given is_option may endable waiting = tt
+
+weight_by_kind : (limits : Limits) (list : OpenList) (lists : List OpenList) (nodes : ℕ) (token option left : Lexeme)
+    (body before given outer own : List Lexeme) (kind : TokenKind) → token.kind ≡ kind
+    → own ≡ left ∷ (body ++ given) → (left.kind ≡ tokens.Left) × (left.column ≡ list.column) → PartSpells limits list.part body
+    → given ≡ before ++ option ∷ [] → IsOption options.Weight option → may_take options.Weight list (parent_kind lists) ≡ true
+    → Endable limits list.part list.mark list.limit (parent_kind lists) before → Waiting limits lists outer
+    → Holds limits (with_mark list lists nodes token (weight_value token kind)) (outer ++ (own ++ token ∷ []))
+weight_by_kind limits list lists nodes token option left body before given outer own tokens.Fraction is_kind is_own is_left spells is_given is_option may endable waiting =
+    weight_holds limits list lists nodes token option left body before given outer own _ is_kind refl is_own is_left spells is_given is_option may endable waiting
+weight_by_kind limits list lists nodes token option left body before given outer own kind is_kind is_own is_left spells is_given is_option may endable waiting = tt
 
 pub value_holds : (limits : Limits) (list : OpenList) (lists : List OpenList) (nodes : ℕ) (token option left : Lexeme)
     (body before given outer own : List Lexeme) (name : OptionName)
@@ -398,8 +324,8 @@ pub value_holds : (limits : Limits) (list : OpenList) (lists : List OpenList) (n
     → Endable limits list.part list.mark list.limit (parent_kind lists) before → Waiting limits lists outer
     → Holds limits (value_token limits list lists nodes token name) (outer ++ (own ++ token ∷ []))
 value_holds limits list lists nodes token option left body before given outer own options.Limit =
-    with_limit_holds limits list lists nodes token option left body before given outer own _ refl
+    limit_by_kind limits list lists nodes token option left body before given outer own token.kind refl
 value_holds limits list lists nodes token option left body before given outer own options.Hits =
-    hits_hold limits list lists nodes token option left body before given outer own _ refl
+    hits_by_kind limits list lists nodes token option left body before given outer own token.kind refl
 value_holds limits list lists nodes token option left body before given outer own options.Weight =
-    weight_holds limits list lists nodes token option left body before given outer own _ refl
+    weight_by_kind limits list lists nodes token option left body before given outer own token.kind refl

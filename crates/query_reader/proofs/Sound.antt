@@ -1,6 +1,6 @@
 -- What is read is spelled: step by step, from the left.
-use Rattle.std.proofs.Common.{◌≡◌, ℕ, ◌+◌, ◌≤◌, Bool, true, false, List, [], ◌∷◌, ◌++◌, Option, None, Some, Result, Ok, Err, refl, sym, ap, ◌∙◌, subst, arith, cond, inl, length, append_assoc, append-nil}
-use Rattle.std.specs.Prelude.{nat_le, nat_lt, IfOk, map}
+use Rattle.std.proofs.Common.{◌≡◌, ℕ, ◌≤◌, Bool, true, false, List, [], ◌∷◌, ◌++◌, Option, None, Some, Result, Ok, Err, refl, sym, ap, ◌∙◌, subst, arith, cond, inl, append_assoc, append-nil}
+use Rattle.std.specs.Prelude.{nat_le, nat_lt}
 use Rattle.std.proofs.lemmas.Bool.{leb-false, ltb-false}
 use Rattle.uni_base.specs.declared.limits.Limits.{Limits}
 use Rattle.query_tree.specs.declared.kind.ListKind.{ListKind}
@@ -16,23 +16,18 @@ use Rattle.query_reader.specs.declared.operator.Operator.TheVariants as operator
 use Rattle.query_reader.specs.declared.open_list.Tail.{Tail}
 use Rattle.query_reader.specs.declared.open_list.Tail.TheVariants as tails
 use Rattle.query_reader.specs.Operators.{operator_of}
-use Rattle.query_reader.specs.Reading.{Lexeme, Refused, Part, operator_due, term_due, term_read, operands_read, prefix_due, node_due, node_read, OpenList, State, start, refuse, pair_of, prefix_of, begin_list, begin_term, node_token, first_part, with_part, operator_found, operator_token, term_found, term_token, prefix_found, prefix_token, parent_kind, option_token, close, end_token, least_operands, most_operands, operands_token, after_option, part_token, tail_token, step_in, step, ended, go_on, read_from, lexeme_of, tokens_read, text_read}
-use Rattle.query_tree.specs.declared.query.Query.{Query}
-use Rattle.query_tree.specs.declared.refusal.QueryRefusal.{QueryRefusal}
-use Rattle.query_tree.specs.Tree.{tree_of}
-use Rattle.query_reader.specs.declared.token.Token.{Token}
-use Rattle.query_reader.specs.Tokens.{text_tokens}
-use Rattle.query_reader.specs.Seen.{IsAnswer}
-use Rattle.query_reader.specs.Grammar.{IsOperator, OptionsSpell, MayHave, NodeSpells, QuerySpells}
+use Rattle.query_reader.specs.Reading.{Lexeme, Refused, Part, operator_due, term_due, term_read, operands_read, prefix_due, node_due, node_read, OpenList, State, refuse, pair_of, prefix_of, begin_list, begin_term, node_token, first_part, with_part, operator_found, operator_token, term_found, term_token, prefix_found, prefix_token, parent_kind, option_token, close, end_token, least_operands, most_operands, operands_token, after_option, part_token, tail_token, step_in, step, ended, go_on, read_from}
+use Rattle.query_reader.specs.Grammar.{IsOperator, OptionsSpell, MayHave, NodeSpells}
 use Rattle.query_reader.proofs.Standing.{PartSpells, PartEnds, PartExpects, LimitStands, Endable, TailSpells, Waiting, Stands, Holds, may_be_plain, begin_list_holds, begin_term_holds, node_token_holds}
-use Rattle.query_reader.proofs.OptionsSound.{close_holds, option_holds, value_holds}
+use Rattle.query_reader.proofs.EndsSound.{close_holds}
+use Rattle.query_reader.proofs.OptionsSound.{option_holds, value_holds}
 
 -- where a list may end
 end_holds : (limits : Limits) (list : OpenList) (lists : List OpenList) (nodes : ℕ) (token left : Lexeme)
     (body given outer own : List Lexeme) (kind : TokenKind) → token.kind ≡ kind
     → own ≡ left ∷ (body ++ given) → (left.kind ≡ tokens.Left) × (left.column ≡ list.column) → PartSpells limits list.part body
     → Endable limits list.part list.mark list.limit (parent_kind lists) given → Waiting limits lists outer
-    → Holds limits (end_token list lists nodes token kind) (outer ++ (own ++ token ∷ []))
+    → Holds limits (end_token limits list lists nodes token kind) (outer ++ (own ++ token ∷ []))
 end_holds limits list lists nodes token left body given outer own tokens.Right is_kind is_own is_left spells endable waiting =
     close_holds limits list lists nodes token left body given outer own is_own is_left spells endable waiting is_kind
 end_holds limits list lists nodes token left body given outer own tokens.Option is_kind is_own is_left spells endable waiting =
@@ -48,7 +43,7 @@ after_holds : (limits : Limits) (list : OpenList) (lists : List OpenList) (nodes
     (body given outer own : List Lexeme) (kind : TokenKind) → token.kind ≡ kind
     → own ≡ left ∷ (body ++ given) → (left.kind ≡ tokens.Left) × (left.column ≡ list.column) → PartSpells limits list.part body
     → Endable limits list.part list.mark list.limit (parent_kind lists) given → Waiting limits lists outer
-    → Holds limits (after_option list lists nodes token kind) (outer ++ (own ++ token ∷ []))
+    → Holds limits (after_option limits list lists nodes token kind) (outer ++ (own ++ token ∷ []))
 after_holds limits list lists nodes token left body given outer own tokens.Right is_kind is_own is_left spells endable waiting =
     close_holds limits list lists nodes token left body given outer own is_own is_left spells endable waiting is_kind
 after_holds limits list lists nodes token left body given outer own tokens.Option is_kind is_own is_left spells endable waiting =
@@ -70,7 +65,7 @@ pub record Bare (limits : Limits) (list : OpenList) (part : Part) (left : Lexeme
   pub plain : list.mark ≡ Plain
   pub limitless : list.limit ≡ None
 
-none_stands : (part : Part) → LimitStands part None
+pub none_stands : (part : Part) → LimitStands part None
 none_stands operator_due = refl
 none_stands term_due = refl
 none_stands (term_read column type_name key) = refl
@@ -92,7 +87,7 @@ endable_bare limits list part left body own parent bare ends = record {
 
 bare_end_holds : (limits : Limits) (list : OpenList) (lists : List OpenList) (nodes : ℕ) (token left : Lexeme)
     (body outer own : List Lexeme) (part : Part) → Bare limits list part left body own → PartEnds part → Waiting limits lists outer
-    → Holds limits (end_token list lists nodes token token.kind) (outer ++ (own ++ token ∷ []))
+    → Holds limits (end_token limits list lists nodes token token.kind) (outer ++ (own ++ token ∷ []))
 bare_end_holds limits list lists nodes token left body outer own part bare ends waiting =
     end_holds limits list lists nodes token left body [] outer own token.kind refl bare.is_own bare.is_left
     (subst (λ (p : Part). PartSpells limits p body) (sym bare.is_part) bare.spells)
@@ -201,7 +196,7 @@ operands_hold limits list lists nodes token left body outer own kind forest toke
     operand_holds limits list lists nodes token left body outer own kind forest (begin_term limits (list ∷ lists) nodes token) _ refl bare waiting
     (λ waits. begin_term_holds limits (list ∷ lists) nodes token (outer ++ own) waits is_kind)
 operands_hold limits list lists nodes token left body outer own kind forest tokens.Right is_kind bare waiting =
-    enough_holds limits list lists token left body outer own kind forest (close list lists nodes token) _ refl
+    enough_holds limits list lists token left body outer own kind forest (close limits list lists nodes token) _ refl
     (λ enough. end_holds limits list lists nodes token left body [] outer own tokens.Right is_kind bare.is_own bare.is_left
     (subst (λ (p : Part). PartSpells limits p body) (sym bare.is_part) bare.spells)
     (endable_bare limits list (operands_read kind forest) left body own (parent_kind lists) bare enough) waiting)
@@ -345,7 +340,7 @@ tail_holds limits list lists nodes token left body given outer own (tails.ValueD
 tail_holds limits list lists nodes token left body given outer own tails.OptionRead is_tail is_own is_left spells endable waiting =
     after_holds limits list lists nodes token left body given outer own token.kind refl is_own is_left spells endable waiting
 
-step_holds : (limits : Limits) (lists : List OpenList) (whole : Option Tree) (nodes : ℕ) (token : Lexeme) (done : List Lexeme)
+pub step_holds : (limits : Limits) (lists : List OpenList) (whole : Option Tree) (nodes : ℕ) (token : Lexeme) (done : List Lexeme)
     → Stands limits lists whole done → Holds limits (step_in limits lists whole nodes token) (done ++ token ∷ [])
 step_holds limits [] None nodes token done stands = node_token_holds limits [] nodes token 31 done token.kind refl stands
 step_holds limits [] (Some node) nodes token done stands = tt
@@ -381,18 +376,3 @@ read_sound limits column state done (token ∷ rest) node stands is_ok =
     (go_on_sound limits (step limits state token) (λ next. read_from limits column next rest) (done ++ token ∷ []) rest node
     (step_holds limits state.open_lists state.whole state.nodes token done stands) is_ok
     (λ next holds is_rest. read_sound limits column next (done ++ token ∷ []) rest node holds is_rest))
-
-tokens_sound : (limits : Limits) (text : List ℕ) (all : Result (List Token) ℕ) (node : Tree)
-    → text_tokens text ≡ all → tokens_read limits text all ≡ Ok node → QuerySpells limits text node
-tokens_sound limits text (Ok all) node are_tokens is_ok =
-    (all, (are_tokens, read_sound limits (length text + 1) start [] (map (lexeme_of text) all) node refl is_ok))
-tokens_sound limits text (Err column) node are_tokens is_ok = absurd (cc)
-
-pub text_sound : (limits : Limits) (text : List ℕ) (node : Tree) → text_read limits text ≡ Ok node → QuerySpells limits text node
-text_sound limits text node is_ok = tokens_sound limits text (text_tokens text) node refl is_ok
-
--- an answer that is right is spelled
-pub answer_sound : (limits : Limits) (text : List ℕ) (answer : Result Query QueryRefusal)
-    → IsAnswer (text_read limits text) answer → IfOk answer (λ query. QuerySpells limits text (tree_of query))
-answer_sound limits text (Ok query) is_answer = text_sound limits text (tree_of query) is_answer
-answer_sound limits text (Err refusal) is_answer = tt

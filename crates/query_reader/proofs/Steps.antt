@@ -1,6 +1,5 @@
 -- The steps by which what is spelled is read.
-use Rattle.std.proofs.lemmas.Bool.{leb-false}
-use Rattle.std.proofs.Common.{leb-true, ◌≡◌, ℕ, suc, ◌+◌, ◌<◌, ◌≤◌, ◌⊎◌, Bool, true, false, List, [], ◌∷◌, ◌++◌, length, Option, None, Some, Result, refl, sym, ap, ◌∙◌, subst, arith, cond, inl, inr, append_assoc}
+use Rattle.std.proofs.Common.{◌≡◌, ℕ, suc, ◌+◌, ◌<◌, ◌≤◌, ◌⊎◌, Bool, true, false, List, [], ◌∷◌, ◌++◌, length, Option, None, Some, Result, Ok, Err, refl, sym, ap, ◌∙◌, subst, arith, cond, inl, inr, append_assoc, leb-true}
 use Rattle.std.specs.Prelude.{nat_le, nat_lt, ◌&&◌}
 use Rattle.std.proofs.lemmas.Bool.Decides.{leb_tells}
 use Rattle.uni_base.specs.declared.limits.Limits.{Limits}
@@ -18,8 +17,8 @@ use Rattle.query_reader.specs.declared.value.OptionName.{OptionName}
 use Rattle.query_reader.specs.declared.value.OptionName.TheVariants as options
 use Rattle.query_reader.specs.declared.open_list.Tail.{Tail}
 use Rattle.query_reader.specs.declared.open_list.Tail.TheVariants as tails
-use Rattle.query_reader.specs.Reading.{Lexeme, Refused, Part, operator_due, term_due, term_read, operands_read, prefix_due, node_due, node_read, OpenList, State, refuse, going_on, add_operand, deliver, pair_of, begin_list, bare_term, begin_term, node_token, first_part, operator_found, operator_token, term_found, term_token, prefix_found, prefix_token, parent_kind, is_join, is_plain, may_take, option_found, option_token, with_limit, with_mark, node_of, closed, close, end_token, least_operands, most_operands, operands_token, after_option, part_token, step_in, ended, go_on, read_from}
-use Rattle.query_reader.specs.Grammar.{IsOperator, IsPrefix, IsTerm, IsOption, LimitSpells, MarkSpells, OptionsSpell, Enclosed, MayHave, NodeSpells, IsLimitFault}
+use Rattle.query_reader.specs.Reading.{Lexeme, Refused, Part, operator_due, term_due, term_read, operands_read, prefix_due, node_due, node_read, OpenList, State, refuse, going_on, add_operand, deliver, pair_of, begin_list, bare_term, begin_term, node_token, first_part, operator_found, operator_token, term_found, term_token, prefix_found, prefix_token, parent_kind, is_join, is_plain, may_take, option_found, option_token, with_limit, with_mark, limit_value, hits_value, weight_value, node_of, closed, close, end_token, least_operands, most_operands, operands_token, after_option, part_token, step_in, ended, go_on, read_from}
+use Rattle.query_reader.specs.Grammar.{IsOperator, IsPrefix, IsTerm, IsOption, LimitSpells, MarkSpells, OptionsSpell, Enclosed, MayHave, NodeSpells}
 use Rattle.query_reader.proofs.Standing.{PartEnds}
 
 -- reading goes on from these lists, and after this step
@@ -33,23 +32,6 @@ After limits column result rest = go_on result (λ next. read_from limits column
 abbrev pub Begin : Limits → ℕ → ℕ → List OpenList → ℕ → List Lexeme → Result Tree Refused
 Begin limits column missing lists nodes [] = ended column None
 Begin limits column missing lists nodes (token ∷ rest) = After limits column (node_token limits lists nodes token missing token.kind) rest
-
--- The one result is the other, unless a limit stops a query of `total` nodes; from `low` nodes on
--- `high` were counted.
-pub data Leads (limits : Limits) (total low : ℕ) (one other : Result Tree Refused) (high : ℕ) : Type 0 where
-  reads : one ≡ other → (low ≤ limits.nodes → high ≤ limits.nodes) → Leads limits total low one other high
-  stops : IsLimitFault limits total one → Leads limits total low one other high
-
-pub same : (limits : Limits) (total low : ℕ) (one other : Result Tree Refused) → one ≡ other → Leads limits total low one other low
-same limits total low one other is_same = reads is_same (λ few. few)
-
-pub then_leads : (limits : Limits) (total low middle high : ℕ) (one two three : Result Tree Refused)
-    → Leads limits total low one two middle → Leads limits total middle two three high → Leads limits total low one three high
-then_leads limits total low middle high one two three (reads is_same few) (reads also fewer) =
-    reads (is_same ∙ also) (λ h. fewer (few h))
-then_leads limits total low middle high one two three (reads is_same few) (stops fault) =
-    stops (subst (IsLimitFault limits total) (sym is_same) fault)
-then_leads limits total low middle high one two three (stops fault) later = stops fault
 
 -- a list with a part
 abbrev pub list_with : ℕ → Part → Mark → Option ℕ → Tail → OpenList
@@ -71,41 +53,41 @@ enough count least h =
 
 -- the step of an end, and of an option, in a list that may end
 pub right_by_part : (limits : Limits) (list : OpenList) (lists : List OpenList) (nodes : ℕ) (token : Lexeme) (part : Part)
-    → PartEnds part → token.kind ≡ tokens.Right → part_token limits list lists nodes token part ≡ close list lists nodes token
+    → PartEnds part → token.kind ≡ tokens.Right → part_token limits list lists nodes token part ≡ close limits list lists nodes token
 right_by_part limits list lists nodes token operator_due ends is_right = absurd ends
 right_by_part limits list lists nodes token term_due ends is_right = absurd ends
 right_by_part limits list lists nodes token (term_read column type_name key) ends is_right =
-    ap (λ (k : TokenKind). end_token list lists nodes token k) is_right
+    ap (λ (k : TokenKind). end_token limits list lists nodes token k) is_right
 right_by_part limits list lists nodes token (operands_read kind forest) ends is_right =
     ap (λ (k : TokenKind). operands_token limits list lists nodes token kind (operand_count forest) k) is_right
-    ∙ ap (λ (b : Bool). cond b (refuse 35 token) (close list lists nodes token)) (enough (operand_count forest) (least_operands kind) ends)
+    ∙ ap (λ (b : Bool). cond b (refuse 35 token) (close limits list lists nodes token)) (enough (operand_count forest) (least_operands kind) ends)
 right_by_part limits list lists nodes token (prefix_due join) ends is_right = absurd ends
 right_by_part limits list lists nodes token (node_due join column type_name) ends is_right = absurd ends
 right_by_part limits list lists nodes token (node_read join column type_name node) ends is_right =
-    ap (λ (k : TokenKind). end_token list lists nodes token k) is_right
+    ap (λ (k : TokenKind). end_token limits list lists nodes token k) is_right
 
 pub option_by_part : (limits : Limits) (list : OpenList) (lists : List OpenList) (nodes : ℕ) (token : Lexeme) (part : Part)
     → PartEnds part → token.kind ≡ tokens.Option → part_token limits list lists nodes token part ≡ option_token list lists nodes token
 option_by_part limits list lists nodes token operator_due ends is_option = absurd ends
 option_by_part limits list lists nodes token term_due ends is_option = absurd ends
 option_by_part limits list lists nodes token (term_read column type_name key) ends is_option =
-    ap (λ (k : TokenKind). end_token list lists nodes token k) is_option
+    ap (λ (k : TokenKind). end_token limits list lists nodes token k) is_option
 option_by_part limits list lists nodes token (operands_read kind forest) ends is_option =
     ap (λ (k : TokenKind). operands_token limits list lists nodes token kind (operand_count forest) k) is_option
     ∙ ap (λ (b : Bool). cond b (refuse 35 token) (option_token list lists nodes token)) (enough (operand_count forest) (least_operands kind) ends)
 option_by_part limits list lists nodes token (prefix_due join) ends is_option = absurd ends
 option_by_part limits list lists nodes token (node_due join column type_name) ends is_option = absurd ends
 option_by_part limits list lists nodes token (node_read join column type_name node) ends is_option =
-    ap (λ (k : TokenKind). end_token list lists nodes token k) is_option
+    ap (λ (k : TokenKind). end_token limits list lists nodes token k) is_option
 
 pub right_step : (limits : Limits) (at : ℕ) (part : Part) (mark : Mark) (limit : Option ℕ) (tail : Tail) (lists : List OpenList) (nodes : ℕ) (token : Lexeme)
     → IsSettled tail → PartEnds part → token.kind ≡ tokens.Right
-    → step_in limits (list_with at part mark limit tail ∷ lists) None nodes token ≡ close (list_with at part mark limit tail) lists nodes token
+    → step_in limits (list_with at part mark limit tail ∷ lists) None nodes token ≡ close limits (list_with at part mark limit tail) lists nodes token
 right_step limits at part mark limit tails.NoOption lists nodes token settled ends is_right =
     right_by_part limits (list_with at part mark limit tails.NoOption) lists nodes token part ends is_right
 right_step limits at part mark limit (tails.ValueDue name) lists nodes token settled ends is_right = absurd settled
 right_step limits at part mark limit tails.OptionRead lists nodes token settled ends is_right =
-    ap (λ (k : TokenKind). after_option (list_with at part mark limit tails.OptionRead) lists nodes token k) is_right
+    ap (λ (k : TokenKind). after_option limits (list_with at part mark limit tails.OptionRead) lists nodes token k) is_right
 
 pub name_step : (limits : Limits) (at : ℕ) (part : Part) (mark : Mark) (limit : Option ℕ) (tail : Tail) (lists : List OpenList) (nodes : ℕ) (token : Lexeme) (name : OptionName)
     → IsSettled tail → PartEnds part → IsOption name token → may_take name (list_with at part mark limit tail) (parent_kind lists) ≡ true
@@ -119,7 +101,7 @@ name_step limits at part mark limit tail lists nodes token name settled ends (is
         → step_in limits (list_with at part mark limit tail ∷ lists) None nodes token ≡ option_token (list_with at part mark limit tail) lists nodes token
     named tails.NoOption settled = option_by_part limits (list_with at part mark limit tails.NoOption) lists nodes token part ends is_kind
     named (tails.ValueDue other) settled = absurd settled
-    named tails.OptionRead settled = ap (λ (k : TokenKind). after_option (list_with at part mark limit tails.OptionRead) lists nodes token k) is_kind
+    named tails.OptionRead settled = ap (λ (k : TokenKind). after_option limits (list_with at part mark limit tails.OptionRead) lists nodes token k) is_kind
 
 pub hits_may_take : (list : OpenList) (parent : Option ListKind) (count : ℕ) → list.mark ≡ Plain → MayHave parent (Hits count) → may_take options.Hits list parent ≡ true
 hits_may_take list None count was may = absurd may
@@ -152,7 +134,8 @@ mark_read limits column at part (Hits count) limit tail lists nodes spelled rest
         ∙ ap (λ r. After limits column r (value ∷ rest))
         (name_step limits at part Plain limit tail lists nodes name options.Hits settled ends is_name
         (hits_may_take (list_with at part Plain limit tail) (parent_kind lists) count refl may))
-        ∙ ap (λ (m : Option Mark). After limits column (with_mark (list_with at part Plain limit (tails.ValueDue options.Hits)) lists nodes value m) rest) is_value,
+        ∙ ap (λ (k : TokenKind). After limits column (with_mark (list_with at part Plain limit (tails.ValueDue options.Hits)) lists nodes value (hits_value value k)) rest) is_value.0
+        ∙ ap (λ (m : Option Mark). After limits column (with_mark (list_with at part Plain limit (tails.ValueDue options.Hits)) lists nodes value m) rest) is_value.1,
   ),
 )
 mark_read limits column at part (Weight n d) limit tail lists nodes spelled rest settled ends may (name, (value, (is_spelled, is_name, is_value))) = (
@@ -163,7 +146,8 @@ mark_read limits column at part (Weight n d) limit tail lists nodes spelled rest
         ∙ ap (λ r. After limits column r (value ∷ rest))
         (name_step limits at part Plain limit tail lists nodes name options.Weight settled ends is_name
         (weight_may_take (list_with at part Plain limit tail) (parent_kind lists) n d refl may))
-        ∙ ap (λ (m : Option Mark). After limits column (with_mark (list_with at part Plain limit (tails.ValueDue options.Weight)) lists nodes value m) rest) is_value,
+        ∙ ap (λ (k : TokenKind). After limits column (with_mark (list_with at part Plain limit (tails.ValueDue options.Weight)) lists nodes value (weight_value value k)) rest) is_value.0
+        ∙ ap (λ (m : Option Mark). After limits column (with_mark (list_with at part Plain limit (tails.ValueDue options.Weight)) lists nodes value m) rest) is_value.1,
   ),
 )
 
@@ -186,14 +170,15 @@ limit_read limits column at part mark (Some limit) tail lists nodes spelled rest
         ∙ ap (λ r. After limits column r (value ∷ rest))
         (name_step limits at part mark None tail lists nodes name options.Limit settled ends is_name
         (ap (λ (b : Bool). b && true) may))
-        ∙ ap (λ (m : Option ℕ). After limits column (with_limit (list_with at part mark None (tails.ValueDue options.Limit)) lists nodes value m) rest) is_value,
+        ∙ ap (λ (k : TokenKind). After limits column (with_limit (list_with at part mark None (tails.ValueDue options.Limit)) lists nodes value (limit_value limits value k)) rest) is_value.0
+        ∙ ap (λ (m : Option ℕ). After limits column (with_limit (list_with at part mark None (tails.ValueDue options.Limit)) lists nodes value m) rest) is_value.1,
   ),
 )
 
 -- options and the end of a list
 pub rest_read : (limits : Limits) (column at : ℕ) (part : Part) (mark : Mark) (limit : Option ℕ) (lists : List OpenList) (nodes : ℕ) (given rest : List Lexeme) (right : Lexeme) (node : Tree)
     → PartEnds part → MayHave (parent_kind lists) mark → MayLimit part limit → OptionsSpell limits mark limit given → right.kind ≡ tokens.Right
-    → ((tail : Tail) → node_of (list_with at part mark limit tail) part ≡ Some node)
+    → ((tail : Tail) → node_of limits (list_with at part mark limit tail) part ≡ Some node)
     → From limits column (bare_list at part ∷ lists) nodes (given ++ right ∷ rest) ≡ After limits column (deliver lists nodes node mark) rest
 rest_read limits column at part mark limit lists nodes given rest right node ends may may_limit (first, (second, (is_given, inl (mark_spells, limit_spells)))) is_right is_node =
     let one = mark_read limits column at part mark None tails.NoOption lists nodes first (second ++ right ∷ rest) tt ends may mark_spells in
@@ -212,52 +197,69 @@ rest_read limits column at part mark limit lists nodes given rest right node end
     ∙ ap (λ r. After limits column r rest) (right_step limits at part mark limit two.0 lists nodes right two.1.0 ends is_right)
     ∙ ap (λ (n : Option Tree). After limits column (closed (list_with at part mark limit two.0) lists nodes right n) rest) (is_node two.0)
 
--- where too many are open, or there are too many nodes, a limit stops
-pub stop_deep : (limits : Limits) (total column : ℕ) (b : Bool) (nodes : ℕ) (token : Lexeme) (result : Result State Refused) (rest : List Lexeme)
-    → Leads limits total nodes (After limits column (cond b (refuse 37 token) result) rest) (After limits column result rest) nodes
-stop_deep limits total column true nodes token result rest = stops (inl refl)
-stop_deep limits total column false nodes token result rest = same limits total nodes _ _ refl
+-- a query of so many nodes has too many of them
+abbrev pub IsNodeFault : Limits → ℕ → Result Tree Refused → Type 0
+IsNodeFault limits total (Ok tree) = ⊥
+IsNodeFault limits total (Err fault) = (fault.code ≡ 38) × (limits.nodes < total)
 
-pub stop_many : (limits : Limits) (total column : ℕ) (b : Bool) (nodes : ℕ) (token : Lexeme) (result : Result State Refused) (rest : List Lexeme)
+-- the one result is the other, unless a query of `total` nodes has too many of them
+pub data Leads (limits : Limits) (total : ℕ) (one other : Result Tree Refused) : Type 0 where
+  reads : one ≡ other → Leads limits total one other
+  stops : IsNodeFault limits total one → Leads limits total one other
+
+pub same : (limits : Limits) (total : ℕ) (one other : Result Tree Refused) → one ≡ other → Leads limits total one other
+same limits total one other is_same = reads is_same
+
+pub then_leads : (limits : Limits) (total : ℕ) (one two three : Result Tree Refused)
+    → Leads limits total one two → Leads limits total two three → Leads limits total one three
+then_leads limits total one two three (reads is_same) (reads also) = reads (is_same ∙ also)
+then_leads limits total one two three (reads is_same) (stops fault) = stops (subst (IsNodeFault limits total) (sym is_same) fault)
+then_leads limits total one two three (stops fault) later = stops fault
+
+-- where the limit of parentheses is not reached, it does not stop
+not_full : (most count : ℕ) → count < most → nat_le most count ≡ false
+not_full most count room = elim (leb_tells most count) [ inl full ↦ absurd (omega (arith, full.1)) | inr some ↦ some.0 ]
+
+unless_many : (limits : Limits) (total column : ℕ) (b : Bool) (nodes : ℕ) (token : Lexeme) (result : Result State Refused) (rest : List Lexeme)
     → nat_le limits.nodes nodes ≡ b → nodes < total
-    → Leads limits total nodes (After limits column (cond b (refuse 38 token) result) rest) (After limits column result rest) (nodes + 1)
-stop_many limits total column true nodes token result rest many below =
-    let over : limits.nodes ≤ nodes = leb-true limits.nodes nodes many in stops (inr (refl, omega arith))
-stop_many limits total column false nodes token result rest few below =
-    let under : nodes < limits.nodes = leb-false limits.nodes nodes few in reads refl (λ h. omega arith)
+    → Leads limits total (After limits column (cond b (refuse 38 token) result) rest) (After limits column result rest)
+unless_many limits total column true nodes token result rest many below =
+    let over : limits.nodes ≤ nodes = leb-true limits.nodes nodes many in stops (refl, omega arith)
+unless_many limits total column false nodes token result rest few below = reads refl
 
 pub term_begins : (limits : Limits) (total column missing at : ℕ) (lists : List OpenList) (nodes : ℕ) (token : Lexeme) (type_name key : List ℕ) (rest : List Lexeme)
-    → IsTerm at type_name key token
-    → nodes < total
-    → Leads limits total nodes (Begin limits column missing lists nodes (token ∷ rest)) (After limits column (deliver lists (nodes + 1) (term_at at type_name key) Plain) rest) (nodes + 1)
+    → IsTerm at type_name key token → nodes < total
+    → Leads limits total (Begin limits column missing lists nodes (token ∷ rest)) (After limits column (deliver lists (nodes + 1) (term_at at type_name key) Plain) rest)
 term_begins limits total column missing at lists nodes token type_name key rest (is_kind, is_column, is_pair) below =
-    then_leads _ _ _ _ _ _ _ _
-    (same _ _ _ _ _ (ap (λ (k : TokenKind). After limits column (node_token limits lists nodes token missing k) rest) is_kind))
-    (then_leads _ _ _ _ _ _ _ _
-    (stop_many limits total column (nat_le limits.nodes nodes) nodes token (bare_term lists (nodes + 1) token (pair_of token.bytes)) rest refl below)
-    (same _ _ _ _ _ (
+    then_leads _ _ _ _ _
+    (same _ _ _ _ (ap (λ (k : TokenKind). After limits column (node_token limits lists nodes token missing k) rest) is_kind))
+    (then_leads _ _ _ _ _
+    (unless_many limits total column (nat_le limits.nodes nodes) nodes token (bare_term lists (nodes + 1) token (pair_of token.bytes)) rest refl below)
+    (same _ _ _ _ (
     ap (λ (p : Option (List ℕ × List ℕ)). After limits column (bare_term lists (nodes + 1) token p) rest) is_pair
     ∙ ap (λ (c : ℕ). After limits column (deliver lists (nodes + 1) (term_at c type_name key) Plain) rest) is_column
     )))
 
 pub list_begins : (limits : Limits) (total column missing at : ℕ) (lists : List OpenList) (nodes : ℕ) (left right : Lexeme) (body given spelled rest : List Lexeme)
-    → spelled ≡ (left ∷ (body ++ given)) ++ right ∷ [] → left.kind ≡ tokens.Left → left.column ≡ at → nodes < total
-    → Leads limits total nodes (Begin limits column missing lists nodes (spelled ++ rest))
-    (From limits column (bare_list at operator_due ∷ lists) (nodes + 1) (body ++ (given ++ right ∷ rest))) (nodes + 1)
-list_begins limits total column missing at lists nodes left right body given spelled rest is_spelled is_kind is_column below =
+    → spelled ≡ (left ∷ (body ++ given)) ++ right ∷ [] → left.kind ≡ tokens.Left → left.column ≡ at
+    → length lists < limits.depth → nodes < total
+    → Leads limits total (Begin limits column missing lists nodes (spelled ++ rest))
+    (From limits column (bare_list at operator_due ∷ lists) (nodes + 1) (body ++ (given ++ right ∷ rest)))
+list_begins limits total column missing at lists nodes left right body given spelled rest is_spelled is_kind is_column shallow below =
     let later : ((body ++ given) ++ right ∷ []) ++ rest ≡ body ++ (given ++ right ∷ rest) =
     append_assoc (body ++ given) (right ∷ []) rest ∙ append_assoc body given (right ∷ rest) in
-    then_leads _ _ _ _ _ _ _ _
-    (same _ _ _ _ _ (
+    let opened : Result State Refused = going_on (bare_list left.column operator_due ∷ lists) (nodes + 1) in
+    then_leads _ _ _ _ _
+    (same _ _ _ _ (
     ap (λ xs. Begin limits column missing lists nodes (xs ++ rest)) is_spelled
     ∙ ap (λ xs. Begin limits column missing lists nodes (left ∷ xs)) later
     ∙ ap (λ (k : TokenKind). After limits column (node_token limits lists nodes left missing k) (body ++ (given ++ right ∷ rest))) is_kind
+    ∙ ap (λ (b : Bool). After limits column (cond b (refuse 37 left) (cond (nat_le limits.nodes nodes) (refuse 38 left) opened)) (body ++ (given ++ right ∷ rest)))
+    (not_full limits.depth (length lists) shallow)
     ))
-    (then_leads _ _ _ _ _ _ _ _
-    (stop_deep limits total column (nat_le limits.depth (length lists)) nodes left _ (body ++ (given ++ right ∷ rest)))
-    (then_leads _ _ _ _ _ _ _ _
-    (stop_many limits total column (nat_le limits.nodes nodes) nodes left (going_on (bare_list left.column operator_due ∷ lists) (nodes + 1)) (body ++ (given ++ right ∷ rest)) refl below)
-    (same _ _ _ _ _ (ap (λ (c : ℕ). From limits column (bare_list c operator_due ∷ lists) (nodes + 1) (body ++ (given ++ right ∷ rest))) is_column))))
+    (then_leads _ _ _ _ _
+    (unless_many limits total column (nat_le limits.nodes nodes) nodes left (going_on (bare_list left.column operator_due ∷ lists) (nodes + 1)) (body ++ (given ++ right ∷ rest)) refl below)
+    (same _ _ _ _ (ap (λ (c : ℕ). From limits column (bare_list c operator_due ∷ lists) (nodes + 1) (body ++ (given ++ right ∷ rest))) is_column)))
 
 pub operator_read : (limits : Limits) (column at : ℕ) (lists : List OpenList) (nodes : ℕ) (name : Lexeme) (operator : Operator) (rest : List Lexeme)
     → IsOperator operator name
@@ -314,9 +316,6 @@ operand_begins limits column at kind acc lists nodes front rest first room =
     ∙ by_kind list open_room first.begins
     ∙ ap (λ xs. Begin limits column 35 (list ∷ lists) nodes (xs ++ rest)) (sym first.is_spelled)
   where
-    not_full : (most count : ℕ) → count < most → nat_le most count ≡ false
-    not_full most count h = elim (leb_tells most count) [ inl full ↦ absurd (omega (arith, full.1)) | inr some ↦ some.0 ]
-
     by_kind : (list : OpenList) → nat_le (most_operands limits kind) (operand_count acc) ≡ false
         → (first.first.kind ≡ tokens.Left) ⊎ (first.first.kind ≡ tokens.Term)
         → After limits column (operands_token limits (bare_list at (operands_read kind acc)) lists nodes first.first kind (operand_count acc) first.first.kind) (first.others ++ rest)

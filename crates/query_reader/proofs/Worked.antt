@@ -20,4 +20,4 @@ worked_faults = record {
 }
 
 pub worked_queries : WorkedQueries
-worked_queries = record { bare_term = refl; a_list = refl; a_marked_term = refl; a_join = refl }
+worked_queries = record { bare_term = refl; a_list = refl; a_marked_term = refl; a_join = refl; a_join_without_limit = refl; a_join_under_a_small_limit = refl }

@@ -44,3 +44,9 @@ pub record WorkedQueries : Type 0 where
   pub a_join :
       HasQuery (codes "(apply tagged: friend:1 :limit 7)")
       (join_at 1 Apply 8 (codes "tagged") 7 (term_at 16 (codes "friend") (codes "1")))
+  pub a_join_without_limit :
+      HasQuery (codes "(apply tagged: friend:1)")
+      (join_at 1 Apply 8 (codes "tagged") 1000 (term_at 16 (codes "friend") (codes "1")))
+  pub a_join_under_a_small_limit :
+      text_read (record standard_limits { join_limit = 5 }) (codes "(apply tagged: friend:1)")
+      ≡ Ok (join_at 1 Apply 8 (codes "tagged") 5 (term_at 16 (codes "friend") (codes "1")))

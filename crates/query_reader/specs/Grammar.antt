@@ -1,5 +1,5 @@
 -- The grammar of queries: which tokens spell which query.
-use Rattle.std.specs.Prelude.{ℕ, ◌≡◌, ◌⊎◌, ◌<◌, ◌≤◌, List, [], ◌∷◌, ◌++◌, Option, Some, None, unwrap_or, Result, Ok, Err, map}
+use Rattle.std.specs.Prelude.{ℕ, ◌≡◌, ◌⊎◌, ◌≤◌, List, [], ◌∷◌, ◌++◌, Option, Some, None, unwrap_or, Ok, map}
 use Rattle.uni_base.specs.declared.limits.Limits.{Limits}
 use Rattle.query_tree.specs.declared.kind.ListKind.{ListKind}
 use Rattle.query_tree.specs.declared.kind.ListKind.TheVariants as lists
@@ -9,8 +9,7 @@ use Rattle.query_tree.specs.declared.refusal.QueryRefusal.{QueryRefusal}
 use Rattle.query_tree.specs.declared.refusal.QueryRefusal.TheVariants.{Fault, Memory}
 use Rattle.query_tree.specs.Tree.{Tree, Forest, term_at, list_at, join_at, no_operands, with_operand}
 use Rattle.query_tree.specs.Size.{node_count}
-use Rattle.query_tree.specs.Text.{default_limit}
-use Rattle.query_tree.specs.Within.{IsOperandCount, operand_count}
+use Rattle.query_tree.specs.Within.{limit_unless_given, IsOperandCount, operand_count}
 use Rattle.query_reader.specs.declared.token.Token.{Token}
 use Rattle.query_reader.specs.declared.token.TokenKind.TheVariants as tokens
 use Rattle.query_reader.specs.declared.operator.Operator.{Operator}
@@ -20,7 +19,8 @@ use Rattle.query_reader.specs.declared.value.OptionName.TheVariants as options
 use Rattle.query_reader.specs.Tokens.{text_tokens}
 use Rattle.query_reader.specs.Operators.{operator_of}
 use Rattle.query_reader.specs.Values.{option_of, number_within, hits_of, weight_of}
-use Rattle.query_reader.specs.Reading.{Lexeme, Refused, lexeme_of, pair_of, prefix_of, text_read}
+use Rattle.query_reader.specs.Reading.{Lexeme, lexeme_of, pair_of, prefix_of, QueryFault}
+use Rattle.query_reader.specs.Depth.{most_open}
 
 -- single tokens
 abbrev pub IsOperator : Operator → Lexeme → Type 0
@@ -37,21 +37,34 @@ IsTerm column type_name key token =
 abbrev pub IsOption : OptionName → Lexeme → Type 0
 IsOption name token = (token.kind ≡ tokens.Option) × (option_of token.bytes ≡ Some name)
 
+-- the value of an option: a number up to the greatest limit of a join, a number up to a million, or
+-- a fraction above 0 and at most 1
+abbrev pub IsLimitValue : Limits → ℕ → Lexeme → Type 0
+IsLimitValue limits limit token =
+    (token.kind ≡ tokens.Number) × (number_within 1 limits.join_limit token.bytes ≡ Some limit)
+
+abbrev pub IsHitsValue : ℕ → Lexeme → Type 0
+IsHitsValue count token = (token.kind ≡ tokens.Number) × (hits_of token.bytes ≡ Some (marks.Hits count))
+
+abbrev pub IsWeightValue : ℕ → ℕ → Lexeme → Type 0
+IsWeightValue numerator denominator token =
+    (token.kind ≡ tokens.Fraction) × (weight_of token.bytes ≡ Some (marks.Weight numerator denominator))
+
 -- an option and its value, or nothing
 abbrev pub LimitSpells : Limits → Option ℕ → List Lexeme → Type 0
 LimitSpells limits None spelled = spelled ≡ []
 LimitSpells limits (Some limit) spelled =
     (name : Lexeme) × ((value : Lexeme) × ((spelled ≡ name ∷ value ∷ [])
-    × IsOption options.Limit name × (number_within 1 limits.join_limit value.bytes ≡ Some limit)))
+    × IsOption options.Limit name × IsLimitValue limits limit value))
 
 abbrev pub MarkSpells : Mark → List Lexeme → Type 0
 MarkSpells marks.Plain spelled = spelled ≡ []
 MarkSpells (marks.Hits count) spelled =
     (name : Lexeme) × ((value : Lexeme) × ((spelled ≡ name ∷ value ∷ [])
-    × IsOption options.Hits name × (hits_of value.bytes ≡ Some (marks.Hits count))))
+    × IsOption options.Hits name × IsHitsValue count value))
 MarkSpells (marks.Weight numerator denominator) spelled =
     (name : Lexeme) × ((value : Lexeme) × ((spelled ≡ name ∷ value ∷ [])
-    × IsOption options.Weight name × (weight_of value.bytes ≡ Some (marks.Weight numerator denominator))))
+    × IsOption options.Weight name × IsWeightValue numerator denominator value))
 
 -- the options of a list, in any order
 abbrev pub OptionsSpell : Limits → Mark → Option ℕ → List Lexeme → Type 0
@@ -95,7 +108,7 @@ abbrev mutual
       × IsOperator (operators.List kind) name × ForestSpells limits kind forest inner)))
       spelled
   NodeSpells limits (join_at column join type_column type_name limit node) mark spelled =
-      (given : Option ℕ) × ((limit ≡ unwrap_or given default_limit)
+      (given : Option ℕ) × ((limit ≡ unwrap_or given (limit_unless_given limits))
       × Enclosed limits column mark given
       (λ body. (name : Lexeme) × ((prefix : Lexeme) × ((inner : List Lexeme) × ((body ≡ name ∷ prefix ∷ inner)
       × IsOperator (operators.Join join) name × IsPrefix type_column type_name prefix
@@ -108,29 +121,16 @@ abbrev mutual
       (front : List Lexeme) × ((back : List Lexeme) × ((spelled ≡ front ++ back)
       × MayHave (Some kind) mark × NodeSpells limits node mark front × ForestSpells limits kind others back))
 
--- a limit stops a query of so many nodes: too many parentheses are open, or there are too many nodes
-abbrev pub IsStopped : Limits → ℕ → Refused → Type 0
-IsStopped limits total fault = (fault.code ≡ 37) ⊎ ((fault.code ≡ 38) × (limits.nodes < total))
+-- A text spells a query: its tokens spell the tree, which has no more nodes than are allowed, and no
+-- more parentheses are open at once than are allowed.
+pub record QuerySpells (limits : Limits) (text : List ℕ) (tree : Tree) : Type 0 where
+  pub lexed : List Token
+  pub of_text : text_tokens text ≡ Ok lexed
+  pub spelled : NodeSpells limits tree marks.Plain (map (lexeme_of text) lexed)
+  pub nodes : node_count tree ≤ limits.nodes
+  pub depth : most_open 0 (map (lexeme_of text) lexed) ≤ limits.depth
 
-abbrev pub IsLimitFault : Limits → ℕ → Result Tree Refused → Type 0
-IsLimitFault limits total (Ok tree) = ⊥
-IsLimitFault limits total (Err fault) = IsStopped limits total fault
-
--- the tokens of a text spell the query
-abbrev pub QuerySpells : Limits → List ℕ → Tree → Type 0
-QuerySpells limits text tree =
-    (all : List Token) × ((text_tokens text ≡ Ok all) × NodeSpells limits tree marks.Plain (map (lexeme_of text) all))
-
-abbrev pub IsLimitRefusal : Limits → Tree → QueryRefusal → Type 0
-IsLimitRefusal limits tree (Fault code column) = IsStopped limits (node_count tree) (record { code = code; column = column })
-IsLimitRefusal limits tree Memory = Unit {0}
-
--- A text is read as a query only if its tokens spell that query. A text that spells a query is read
--- as it, and has no more nodes than are allowed, unless it opens too many parentheses or has more
--- nodes. So no text spells two queries within limits, and none that spells one has another fault.
-pub record IsGrammarRead : Type 0 where
-  pub sound :
-      (limits : Limits) → (text : List ℕ) → (tree : Tree) → text_read limits text ≡ Ok tree → QuerySpells limits text tree
-  pub complete :
-      (limits : Limits) → (text : List ℕ) → (tree : Tree) → QuerySpells limits text tree
-      → ((text_read limits text ≡ Ok tree) × (node_count tree ≤ limits.nodes)) ⊎ IsLimitFault limits (node_count tree) (text_read limits text)
+-- a refusal of a text: its first fault, or want of memory, which is free
+abbrev pub IsQueryRefusal : Limits → List ℕ → QueryRefusal → Type 0
+IsQueryRefusal limits text (Fault code column) = QueryFault limits text code column
+IsQueryRefusal limits text Memory = Unit {0}

@@ -5,6 +5,10 @@ pub mod Refusals
 pub mod Operators
 pub mod Values
 pub mod Reading
+pub mod Depth
 pub mod Seen
 pub mod Grammar
+pub mod TextLaws
+pub mod FirstFault
+pub mod PrintLaws
 pub mod Examples

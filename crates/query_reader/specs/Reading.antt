@@ -1,5 +1,5 @@
 -- A query read from the left, with a list of the open lists.
-use Rattle.std.specs.Prelude.{ℕ, Bool, true, false, ◌&&◌, ◌+◌, nat_le, nat_lt, is_none, slice_range, map, List, [], ◌∷◌, length, Option, Some, None, unwrap_or, Result, Ok, Err, if◌then◌else◌}
+use Rattle.std.specs.Prelude.{ℕ, ◌≡◌, Bool, true, false, ◌&&◌, ◌+◌, nat_le, nat_lt, is_none, slice_range, map, List, [], ◌∷◌, length, Option, Some, None, unwrap_or, Result, Ok, Err, if◌then◌else◌}
 use Rattle.uni_base.specs.Words.{is_word}
 use Rattle.uni_base.specs.Fields.{cut_at}
 use Rattle.uni_base.specs.declared.limits.Limits.{Limits}
@@ -9,8 +9,7 @@ use Rattle.query_tree.specs.declared.kind.JoinKind.{JoinKind}
 use Rattle.query_tree.specs.declared.query.Mark.{Mark}
 use Rattle.query_tree.specs.declared.query.Mark.TheVariants as marks
 use Rattle.query_tree.specs.Tree.{Tree, Forest, term_at, list_at, join_at, no_operands, with_operand}
-use Rattle.query_tree.specs.Text.{default_limit}
-use Rattle.query_tree.specs.Within.{operand_count}
+use Rattle.query_tree.specs.Within.{limit_unless_given, operand_count}
 use Rattle.query_reader.specs.declared.token.Token.{Token}
 use Rattle.query_reader.specs.declared.token.TokenKind.{TokenKind}
 use Rattle.query_reader.specs.declared.token.TokenKind.TheVariants as tokens
@@ -209,35 +208,48 @@ with_mark list lists nodes token None = refuse 36 token
 with_mark list lists nodes token (Some mark) =
     going_on (record list { mark = mark; tail = tails.OptionRead } ∷ lists) nodes
 
+-- the value that a token of a kind gives an option: a number or a fraction in its range
+abbrev pub limit_value : Limits → Lexeme → TokenKind → Option ℕ
+limit_value limits token tokens.Number = number_within 1 limits.join_limit token.bytes
+limit_value limits token kind = None
+
+abbrev pub hits_value : Lexeme → TokenKind → Option Mark
+hits_value token tokens.Number = hits_of token.bytes
+hits_value token kind = None
+
+abbrev pub weight_value : Lexeme → TokenKind → Option Mark
+weight_value token tokens.Fraction = weight_of token.bytes
+weight_value token kind = None
+
 -- an option's value is due
 abbrev pub value_token : Limits → OpenList → List OpenList → ℕ → Lexeme → OptionName → Result State Refused
 value_token limits list lists nodes token options.Limit =
-    with_limit list lists nodes token (number_within 1 limits.join_limit token.bytes)
-value_token limits list lists nodes token options.Hits = with_mark list lists nodes token (hits_of token.bytes)
-value_token limits list lists nodes token options.Weight = with_mark list lists nodes token (weight_of token.bytes)
+    with_limit list lists nodes token (limit_value limits token token.kind)
+value_token limits list lists nodes token options.Hits = with_mark list lists nodes token (hits_value token token.kind)
+value_token limits list lists nodes token options.Weight = with_mark list lists nodes token (weight_value token token.kind)
 
 -- the node of a list that may end
-abbrev pub node_of : OpenList → Part → Option Tree
-node_of list (term_read column type_name key) = Some (term_at column type_name key)
-node_of list (operands_read kind forest) = Some (list_at list.column kind forest)
-node_of list (node_read join column type_name node) =
-    Some (join_at list.column join column type_name (unwrap_or list.limit default_limit) node)
-node_of list part = None
+abbrev pub node_of : Limits → OpenList → Part → Option Tree
+node_of limits list (term_read column type_name key) = Some (term_at column type_name key)
+node_of limits list (operands_read kind forest) = Some (list_at list.column kind forest)
+node_of limits list (node_read join column type_name node) =
+    Some (join_at list.column join column type_name (unwrap_or list.limit (limit_unless_given limits)) node)
+node_of limits list part = None
 
 abbrev pub closed : OpenList → List OpenList → ℕ → Lexeme → Option Tree → Result State Refused
 closed list lists nodes token None = refuse 36 token
 closed list lists nodes token (Some node) = deliver lists nodes node list.mark
 
-abbrev pub close : OpenList → List OpenList → ℕ → Lexeme → Result State Refused
-close list lists nodes token = closed list lists nodes token (node_of list list.part)
+abbrev pub close : Limits → OpenList → List OpenList → ℕ → Lexeme → Result State Refused
+close limits list lists nodes token = closed list lists nodes token (node_of limits list list.part)
 
 -- the list may end here
-abbrev pub end_token : OpenList → List OpenList → ℕ → Lexeme → TokenKind → Result State Refused
-end_token list lists nodes token tokens.Right = close list lists nodes token
-end_token list lists nodes token tokens.Option = option_token list lists nodes token
-end_token list lists nodes token tokens.Left = refuse 35 token
-end_token list lists nodes token tokens.Term = refuse 35 token
-end_token list lists nodes token kind = refuse 31 token
+abbrev pub end_token : Limits → OpenList → List OpenList → ℕ → Lexeme → TokenKind → Result State Refused
+end_token limits list lists nodes token tokens.Right = close limits list lists nodes token
+end_token limits list lists nodes token tokens.Option = option_token list lists nodes token
+end_token limits list lists nodes token tokens.Left = refuse 35 token
+end_token limits list lists nodes token tokens.Term = refuse 35 token
+end_token limits list lists nodes token kind = refuse 31 token
 
 -- the least and the greatest number of operands
 abbrev pub least_operands : ListKind → ℕ
@@ -255,34 +267,34 @@ operands_token limits list lists nodes token kind count tokens.Left =
 operands_token limits list lists nodes token kind count tokens.Term =
     if nat_le (most_operands limits kind) count then refuse 35 token else begin_term limits (list ∷ lists) nodes token
 operands_token limits list lists nodes token kind count tokens.Right =
-    if nat_lt count (least_operands kind) then refuse 35 token else close list lists nodes token
+    if nat_lt count (least_operands kind) then refuse 35 token else close limits list lists nodes token
 operands_token limits list lists nodes token kind count tokens.Option =
     if nat_lt count (least_operands kind) then refuse 35 token else option_token list lists nodes token
 operands_token limits list lists nodes token kind count other = refuse 31 token
 
 -- after an option and its value only another one or the end may stand
-abbrev pub after_option : OpenList → List OpenList → ℕ → Lexeme → TokenKind → Result State Refused
-after_option list lists nodes token tokens.Option = option_token list lists nodes token
-after_option list lists nodes token tokens.Right = close list lists nodes token
-after_option list lists nodes token kind = refuse 36 token
+abbrev pub after_option : Limits → OpenList → List OpenList → ℕ → Lexeme → TokenKind → Result State Refused
+after_option limits list lists nodes token tokens.Option = option_token list lists nodes token
+after_option limits list lists nodes token tokens.Right = close limits list lists nodes token
+after_option limits list lists nodes token kind = refuse 36 token
 
 abbrev pub part_token : Limits → OpenList → List OpenList → ℕ → Lexeme → Part → Result State Refused
 part_token limits list lists nodes token operator_due = operator_token list lists nodes token token.kind
 part_token limits list lists nodes token term_due = term_token list lists nodes token token.kind
 part_token limits list lists nodes token (term_read column type_name key) =
-    end_token list lists nodes token token.kind
+    end_token limits list lists nodes token token.kind
 part_token limits list lists nodes token (operands_read kind forest) =
     operands_token limits list lists nodes token kind (operand_count forest) token.kind
 part_token limits list lists nodes token (prefix_due join) = prefix_token list lists nodes token join token.kind
 part_token limits list lists nodes token (node_due join column type_name) =
     node_token limits (list ∷ lists) nodes token 35 token.kind
 part_token limits list lists nodes token (node_read join column type_name node) =
-    end_token list lists nodes token token.kind
+    end_token limits list lists nodes token token.kind
 
 abbrev pub tail_token : Limits → OpenList → List OpenList → ℕ → Lexeme → Tail → Result State Refused
 tail_token limits list lists nodes token tails.NoOption = part_token limits list lists nodes token list.part
 tail_token limits list lists nodes token (tails.ValueDue name) = value_token limits list lists nodes token name
-tail_token limits list lists nodes token tails.OptionRead = after_option list lists nodes token token.kind
+tail_token limits list lists nodes token tails.OptionRead = after_option limits list lists nodes token token.kind
 
 -- outside of all lists one node is due, and nothing after it
 abbrev pub outer_token : Limits → Option Tree → ℕ → Lexeme → Result State Refused
@@ -322,3 +334,7 @@ tokens_read limits text (Err column) = Err (record { code = 31; column = column 
 -- the query of a text, or its first fault
 abbrev pub text_read : Limits → List ℕ → Result Tree Refused
 text_read limits text = tokens_read limits text (text_tokens text)
+
+-- a text's first fault has this code and this column
+abbrev pub QueryFault : Limits → List ℕ → ℕ → ℕ → Type 0
+QueryFault limits text code column = text_read limits text ≡ Err (record { code = code; column = column })

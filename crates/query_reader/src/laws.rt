@@ -1,8 +1,28 @@
 //! Laws about definitions, each the contract of a function that does nothing.
-ghost use Rattle.query_reader.specs.Grammar.{IsGrammarRead};
+ghost use Rattle.query_reader.specs.FirstFault.{FaultIsFirst};
+ghost use Rattle.query_reader.specs.PrintLaws.{PrintIsRead};
+ghost use Rattle.query_reader.specs.TextLaws.{SpelledIsWithin, OneQueryOrFault};
 
-/// What is read from the left is what the grammar spells.
-#[tactic(auto, using(crate::proofs::Complete::grammar_read))]
-pub fn reading_is_the_grammar()
-    ensures { IsGrammarRead }
+/// Every text has exactly one query or exactly one fault, and never both.
+#[tactic(auto, using(crate::proofs::TextLaws::query_or_fault))]
+pub fn one_query_or_fault()
+    ensures { OneQueryOrFault }
+{}
+
+/// The first fault stands where no query goes on, though one begins with what stands before it.
+#[tactic(auto, using(crate::proofs::FirstFault::fault_is_first))]
+pub fn fault_is_first()
+    ensures { FaultIsFirst }
+{}
+
+/// What a text spells is within the limits: its names, its options, its size and its depth.
+#[tactic(auto, using(crate::proofs::SpelledWithin::spelled_is_within))]
+pub fn spelled_is_within()
+    ensures { SpelledIsWithin }
+{}
+
+/// The print of a query within the limits is read as that query, equal but for columns.
+#[tactic(auto, using(crate::proofs::PrintRead::print_read))]
+pub fn print_is_read()
+    ensures { PrintIsRead }
 {}

@@ -1,5 +1,5 @@
 ghost use Rattle.std.specs.Prelude.{◌≡◌, ◌<◌, ◌^◌, length};
-ghost use Rattle.query_reader.specs.Reading.{after_option, end_token, is_join, is_plain, may_take, option_token, parent_kind, value_token, with_limit, with_mark};
+ghost use Rattle.query_reader.specs.Reading.{after_option, end_token, hits_value, is_join, is_plain, limit_value, may_take, option_token, parent_kind, value_token, weight_value, with_limit, with_mark};
 ghost use Rattle.query_reader.specs.Seen.{IsStep, all_open, open_of, part_of, token_of};
 
 use crate::fault::{BAD_OPTION, BAD_TOKEN, OPERAND_COUNT};
@@ -71,17 +71,58 @@ pub fn value_token(
     ensures { IsStep (value_token limits.now (open_of list) (all_open lists.items) nodes (token_of token.now) name) result }
 {
     match name {
-        OptionName::Limit => match number_within(token.bytes, 1, limits.join_limit) {
-            Some(limit) => {
-                let mut list = list;
-                list.limit = Some(limit as u32);
-                list.tail = Tail::OptionRead;
-                within(lists, list, nodes)
-            }
-            None => refused(BAD_OPTION, token),
-        },
-        OptionName::Hits => with_mark(list, lists, nodes, token, read_hits(token.bytes)),
-        OptionName::Weight => with_mark(list, lists, nodes, token, read_weight(token.bytes)),
+        OptionName::Limit => with_limit(list, lists, nodes, token, limit_value(limits, token)),
+        OptionName::Hits => with_mark(list, lists, nodes, token, hits_value(token)),
+        OptionName::Weight => with_mark(list, lists, nodes, token, weight_value(token)),
+    }
+}
+
+/// The greatest number of hits that a join follows, if the token says one.
+fn limit_value(limits: &Limits, token: &Lexeme<'_>) -> Option<u32>
+    requires { limits.now.join_limit < 2 ^ 32 }
+    ensures { result ≡ limit_value limits.now (token_of token.now) token.now.kind }
+{
+    if token.kind != TokenKind::Number {
+        return None;
+    }
+    let limit = number_within(token.bytes, 1, limits.join_limit)?;
+    Some(limit as u32)
+}
+
+fn hits_value(token: &Lexeme<'_>) -> Option<Mark>
+    ensures { result ≡ hits_value (token_of token.now) token.now.kind }
+{
+    match token.kind {
+        TokenKind::Number => read_hits(token.bytes),
+        _ => None,
+    }
+}
+
+fn weight_value(token: &Lexeme<'_>) -> Option<Mark>
+    ensures { result ≡ weight_value (token_of token.now) token.now.kind }
+{
+    match token.kind {
+        TokenKind::Fraction => read_weight(token.bytes),
+        _ => None,
+    }
+}
+
+fn with_limit(
+    mut list: OpenList,
+    lists: Vec<OpenList>,
+    nodes: u64,
+    token: &Lexeme<'_>,
+    limit: Option<u32>,
+) -> Result<State, QueryRefusal>
+    ensures { IsStep (with_limit (open_of list) (all_open lists.items) nodes (token_of token.now) limit) result }
+{
+    match limit {
+        Some(limit) => {
+            list.limit = Some(limit);
+            list.tail = Tail::OptionRead;
+            within(lists, list, nodes)
+        }
+        None => refused(BAD_OPTION, token),
     }
 }
 
@@ -106,15 +147,16 @@ fn with_mark(
 
 /// Reads what stands where a list may end.
 pub fn end_token(
+    limits: &Limits,
     list: OpenList,
     lists: Vec<OpenList>,
     nodes: u64,
     token: &Lexeme<'_>,
 ) -> Result<State, QueryRefusal>
-    ensures { IsStep (end_token (open_of list) (all_open lists.items) nodes (token_of token.now) token.now.kind) result }
+    ensures { IsStep (end_token limits.now (open_of list) (all_open lists.items) nodes (token_of token.now) token.now.kind) result }
 {
     match token.kind {
-        TokenKind::Right => close(list, lists, nodes, token),
+        TokenKind::Right => close(limits, list, lists, nodes, token),
         TokenKind::Option => option_token(list, lists, nodes, token),
         TokenKind::Left | TokenKind::Term => refused(OPERAND_COUNT, token),
         _ => refused(BAD_TOKEN, token),
@@ -123,15 +165,16 @@ pub fn end_token(
 
 /// Reads what stands after an option and its value.
 pub fn after_option(
+    limits: &Limits,
     list: OpenList,
     lists: Vec<OpenList>,
     nodes: u64,
     token: &Lexeme<'_>,
 ) -> Result<State, QueryRefusal>
-    ensures { IsStep (after_option (open_of list) (all_open lists.items) nodes (token_of token.now) token.now.kind) result }
+    ensures { IsStep (after_option limits.now (open_of list) (all_open lists.items) nodes (token_of token.now) token.now.kind) result }
 {
     match token.kind {
-        TokenKind::Right => close(list, lists, nodes, token),
+        TokenKind::Right => close(limits, list, lists, nodes, token),
         TokenKind::Option => option_token(list, lists, nodes, token),
         _ => refused(BAD_OPTION, token),
     }

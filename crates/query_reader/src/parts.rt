@@ -151,7 +151,7 @@ pub fn operands_token(
             let lists = with_list(lists, list)?;
             begin_term(limits, lists, nodes, token)
         }
-        TokenKind::Right => close(list, lists, nodes, token),
+        TokenKind::Right => close(limits, list, lists, nodes, token),
         TokenKind::Option => option_token(list, lists, nodes, token),
         _ => refused(BAD_TOKEN, token),
     }

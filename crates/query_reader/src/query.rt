@@ -1,8 +1,8 @@
 ghost use Rattle.std.specs.Prelude.{◌≡◌, ◌-◌, ◌<◌, ◌≤◌, ◌^◌, length, IfOk, MatchResult};
 ghost use Rattle.uni_base.specs.StandardLimits.{IsWithinStandard};
-ghost use Rattle.query_tree.specs.Size.{node_count};
 ghost use Rattle.query_tree.specs.Tree.{Tree, tree_of};
-ghost use Rattle.query_reader.specs.Grammar.{IsLimitRefusal, QuerySpells};
+ghost use Rattle.query_tree.specs.Within.{IsWithin};
+ghost use Rattle.query_reader.specs.Grammar.{IsQueryRefusal, QuerySpells};
 ghost use Rattle.query_reader.specs.Reading.{ended, lexeme_of, text_read};
 ghost use Rattle.query_reader.specs.Seen.{IsAnswer, token_of, whole_of};
 
@@ -19,14 +19,20 @@ use uni_base::Limits;
 pub fn read_query(alloc: Global, limits: &Limits, text: &[u8]) -> Result<Query, QueryRefusal>
     requires limits { IsWithinStandard limits.now }
     requires short { length text.now < 2 ^ 32 - 1 }
-    ensures exact { IsAnswer (text_read limits.now text.now) result }
-    ensures spelled { IfOk result (λ query. QuerySpells limits.now text.now (tree_of query)) }
+    // A query is read exactly where the text spells it, and the fault is exactly the text's first one.
+    ensures exact { MatchResult result
+        (λ query. QuerySpells limits.now text.now (tree_of query))
+        (IsQueryRefusal limits.now text.now) }
 
-    // A text that spells a query is refused only for memory, for its parentheses, or exactly where it
-    // has more nodes than are allowed.
+    // A text that spells a query is read as that query: only want of memory refuses it.
     ensures spells { (tree : Tree) → QuerySpells limits.now text.now tree
-        → MatchResult result (λ query. (tree_of query ≡ tree) × (node_count tree ≤ limits.now.nodes))
-        (IsLimitRefusal limits.now tree) }
+        → MatchResult result (λ query. tree_of query ≡ tree) (λ refusal. refusal ≡ QueryRefusal.Memory) }
+
+    // What is read is within the limits: its names, its options, its size and its depth.
+    ensures within { IfOk result (λ query. IsWithin limits.now (tree_of query)) }
+
+    // The same from the left: the query that the tokens give, or their first fault.
+    ensures reading { IsAnswer (text_read limits.now text.now) result }
 {
     read(alloc, limits, text)
 }

@@ -1,5 +1,6 @@
 ghost use Rattle.std.specs.Prelude.{◌≡◌, ◌∷◌, Ok, Err, IfOk, MatchResult};
 ghost use Rattle.query_tree.specs.Tree.{operands_of, tree_of};
+ghost use Rattle.query_tree.specs.Within.{limit_unless_given};
 ghost use Rattle.query_reader.specs.Reading.{add_operand, close, closed, deliver, going_on, node_of, part_with, refuse};
 ghost use Rattle.query_reader.specs.Seen.{IsStep, all_open, open_of, part_of, token_of, whole_of};
 
@@ -8,6 +9,7 @@ use crate::open_list::{OpenList, Part};
 use crate::token::TokenKind;
 use query_tree::{DEFAULT_LIMIT, JoinNode, ListNode, Mark, Operand, Query, QueryRefusal};
 use std::alloc::Global;
+use uni_base::Limits;
 
 /// A token with its column and its bytes.
 #[derive(Clone, Copy)]
@@ -28,7 +30,8 @@ pub struct State {
 
 /// The fault of a code at a token.
 pub fn refused(code: u32, token: &Lexeme<'_>) -> Result<State, QueryRefusal>
-    ensures { IsStep (refuse code (token_of token.now)) result }
+    ensures step { IsStep (refuse code (token_of token.now)) result }
+    ensures fault { result ≡ Err (QueryRefusal.Fault code token.now.column) }
 {
     Err(QueryRefusal::Fault {
         code,
@@ -141,23 +144,24 @@ fn with_operand(
 
 /// Ends a list.
 pub fn close(
+    limits: &Limits,
     list: OpenList,
     lists: Vec<OpenList>,
     nodes: u64,
     token: &Lexeme<'_>,
 ) -> Result<State, QueryRefusal>
-    ensures { IsStep (close (open_of list) (all_open lists.items) nodes (token_of token.now)) result }
+    ensures { IsStep (close limits.now (open_of list) (all_open lists.items) nodes (token_of token.now)) result }
 {
     let mark = list.mark;
-    match finished(*lists.allocator(), list)? {
+    match finished(*lists.allocator(), limits, list)? {
         Some(node) => deliver(lists, nodes, node, mark),
         None => refused(BAD_OPTION, token),
     }
 }
 
-fn finished(alloc: Global, list: OpenList) -> Result<Option<Query>, QueryRefusal>
+fn finished(alloc: Global, limits: &Limits, list: OpenList) -> Result<Option<Query>, QueryRefusal>
     ensures { MatchResult result
-        (λ node. whole_of node ≡ node_of (open_of list) (part_of list.part))
+        (λ node. whole_of node ≡ node_of limits.now (open_of list) (part_of list.part))
         (λ e. e ≡ QueryRefusal.Memory) }
 {
     let OpenList {
@@ -184,11 +188,18 @@ fn finished(alloc: Global, list: OpenList) -> Result<Option<Query>, QueryRefusal
                     column,
                     type_column: prefix.column,
                     type_name: prefix.name,
-                    limit: limit.unwrap_or(DEFAULT_LIMIT),
+                    limit: limit.unwrap_or(limit_unless_given(limits)),
                     node,
                 },
             )))
         }
         _ => Ok(None),
     }
+}
+
+/// The limit of a join that is written without one: the default, or the greatest where that is less.
+fn limit_unless_given(limits: &Limits) -> u32
+    ensures { result ≡ limit_unless_given limits.now }
+{
+    limits.join_limit.min(DEFAULT_LIMIT as u64) as u32
 }

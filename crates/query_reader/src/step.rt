@@ -47,7 +47,7 @@ fn tail_token(
     match list.tail {
         Tail::NoOption => part_token(limits, list, lists, nodes, token),
         Tail::ValueDue(name) => value_token(limits, list, lists, nodes, token, name),
-        Tail::OptionRead => after_option(list, lists, nodes, token),
+        Tail::OptionRead => after_option(limits, list, lists, nodes, token),
     }
 }
 
@@ -65,7 +65,7 @@ fn part_token(
     match &list.part {
         Part::OperatorDue => operator_token(list, lists, nodes, token),
         Part::TermDue => term_token(list, lists, nodes, token),
-        Part::TermRead(_) => end_token(list, lists, nodes, token),
+        Part::TermRead(_) => end_token(limits, list, lists, nodes, token),
         Part::Operands(kind, operands) => {
             let kind = *kind;
             let count = operands.len() as u64;
@@ -79,6 +79,6 @@ fn part_token(
             let lists = with_list(lists, list)?;
             node_token(limits, lists, nodes, token, OPERAND_COUNT)
         }
-        Part::NodeRead(_, _, _) => end_token(list, lists, nodes, token),
+        Part::NodeRead(_, _, _) => end_token(limits, list, lists, nodes, token),
     }
 }

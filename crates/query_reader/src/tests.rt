@@ -5,23 +5,43 @@ use query_tree::{QueryRefusal, print_query};
 use std::alloc::{AllocError, Global};
 use std::process::Abort;
 use std::test::Fail;
-use uni_base::Limits;
+use uni_base::{Limits, Text};
 
-/// Texts with the code and the column of their first fault.
-static FAULTS: [(&str, u32, u32); 52] = [
-    ("(and friend:1 Rome)", 31, 15),
-    ("(and friend:1 rome)", 31, 15),
-    ("(and friend:1", 32, 14),
-    ("", 32, 1),
-    ("friend:1 friend:2", 33, 10),
-    ("(frend 1)", 34, 2),
-    ("()", 34, 2),
-    ("(and)", 35, 5),
-    ("(difference friend:1)", 35, 21),
-    ("(and (term friend:1 :optional-hits 1) lives:rome)", 36, 21),
-    ("(apply tagged: friend:1 :limit 0)", 36, 32),
+/// Texts with the greatest number of nodes, and the code and the column of their first fault: one for
+/// each code, or more.
+static REFUSED: [(&str, u64, u32, u32); 13] = [
+    ("(and friend:1 Rome)", 256, 31, 15),
+    ("(and friend:1 rome)", 256, 31, 15),
+    ("(and friend:1", 256, 32, 14),
+    ("", 256, 32, 1),
+    ("friend:1 friend:2", 256, 33, 10),
+    ("(frend 1)", 256, 34, 2),
+    ("()", 256, 34, 2),
+    ("(and)", 256, 35, 5),
+    ("(difference friend:1)", 256, 35, 21),
+    (
+        "(and (term friend:1 :optional-hits 1) lives:rome)",
+        256,
+        36,
+        21,
+    ),
+    ("(apply tagged: friend:1 :limit 0)", 256, 36, 32),
+    (
+        "(or (or (or (or (or (or (or (or (or (or (or (or (or (or (or (or (or (or (or (or (or (or (or (or (or (or (or (or (or (or (or (or (or friend:1)))))))))))))))))))))))))))))))))",
+        256,
+        37,
+        129,
+    ),
+    ("(or friend:1 friend:2 friend:3)", 3, 38, 23),
+];
+
+/// More texts, under the standard limits.
+static FAULTS: [(&str, u32, u32); 46] = [
     ("   ", 32, 4),
     ("\u{e9}", 31, 1),
+    ("(and friend:\u{e9} a:1)", 31, 6),
+    ("(and a:1 \u{2003})", 31, 10),
+    ("a:1\tb:1", 31, 1),
     (")", 31, 1),
     (":limit", 31, 1),
     ("a:1)", 33, 4),
@@ -60,6 +80,8 @@ static FAULTS: [(&str, u32, u32); 52] = [
     ("(strong-or (term a:1 :optional-weight 0/1) b:1)", 36, 39),
     ("(strong-or (term a:1 :optional-weight 2/1) b:1)", 36, 39),
     ("(strong-or (term a:1 :optional-weight 1/1001) b:1)", 36, 39),
+    ("(strong-or (term a:1 :optional-weight 1/0) b:1)", 36, 39),
+    ("(strong-or (term a:1 :optional-weight 1) b:1)", 36, 39),
     (
         "(strong-or (term a:1 :optional-weight 1/2 :optional-weight 1/2) b:1)",
         36,
@@ -68,7 +90,7 @@ static FAULTS: [(&str, u32, u32); 52] = [
 ];
 
 /// Texts with the prints of their queries.
-static QUERIES: [(&str, &str); 20] = [
+static QUERIES: [(&str, &str); 21] = [
     ("friend:1", "friend:1"),
     ("  friend:1  ", "friend:1"),
     ("(term friend:1)", "friend:1"),
@@ -93,6 +115,10 @@ static QUERIES: [(&str, &str); 20] = [
     (
         "(strong-or (term a:1 :optional-weight 1000/1000))",
         "(strong-or (term a:1 :optional-weight 1000/1000))",
+    ),
+    (
+        "(strong-or (term a:1 :optional-weight 1/1000) (or b:1 :optional-weight 2/4))",
+        "(strong-or (term a:1 :optional-weight 1/1000) (or b:1 :optional-weight 2/4))",
     ),
     ("(apply tagged: friend:1)", "(apply tagged: friend:1)"),
     (
@@ -161,6 +187,20 @@ fn repeated(
 }
 
 #[test]
+fn refused_texts(rt: HostRuntime) -> Result<(), Fail> {
+    for (text, nodes, code, column) in &REFUSED {
+        assert!(rt; *nodes <= 256);
+        let limits = Limits {
+            nodes: *nodes,
+            ..Limits::standard()
+        };
+        let found = fault(&rt, rt.alloc(), &limits, text.as_bytes())?;
+        assert_eq!(rt; found, Some((*code, *column)), "{text}");
+    }
+    Ok(())
+}
+
+#[test]
 fn faults(rt: HostRuntime) -> Result<(), Fail> {
     let limits = Limits::standard();
     for (text, code, column) in &FAULTS {
@@ -170,18 +210,25 @@ fn faults(rt: HostRuntime) -> Result<(), Fail> {
     Ok(())
 }
 
+/// The print of a text's query.
+fn print(rt: &impl Abort, alloc: Global, limits: &Limits, text: &[u8]) -> Result<Text, Fail>
+    requires { IsWithinStandard limits.now }
+{
+    assert!(rt; text.len() < 1_000_000);
+    match read_query(alloc, limits, text) {
+        Ok(query) => Ok(print_query(alloc, &query)?),
+        Err(_) => Err("no query")?,
+    }
+}
+
 #[test]
 fn queries(rt: HostRuntime) -> Result<(), Fail> {
     let limits = Limits::standard();
-    for (text, print) in &QUERIES {
-        assert!(rt; text.len() < 1_000_000);
-        match read_query(rt.alloc(), &limits, text.as_bytes()) {
-            Ok(query) => {
-                let printed = print_query(rt.alloc(), &query)?;
-                assert!(rt; printed.as_slice() == print.as_bytes(), "{text}");
-            }
-            Err(refusal) => assert!(rt; false, "{text}: {refusal}"),
-        }
+    for (text, expected) in &QUERIES {
+        let printed = print(&rt, rt.alloc(), &limits, text.as_bytes())?;
+        assert!(rt; printed.as_slice() == expected.as_bytes(), "{text}");
+        let again = print(&rt, rt.alloc(), &limits, printed.as_slice())?;
+        assert!(rt; again.as_slice() == expected.as_bytes(), "{text}");
     }
     Ok(())
 }
@@ -191,10 +238,6 @@ fn limits_of_a_query(rt: HostRuntime) -> Result<(), Fail> {
     let alloc = rt.alloc();
     let limits = Limits::standard();
     let few = Limits { nodes: 3, ..limits };
-    assert_eq!(rt;
-        fault(&rt, alloc, &few, b"(or friend:1 friend:2 friend:3)")?,
-        Some((38, 23))
-    );
     assert_eq!(rt; fault(&rt, alloc, &few, b"(or friend:1 friend:2)")?, None);
     let deepest = repeated(
         alloc,
@@ -204,17 +247,6 @@ fn limits_of_a_query(rt: HostRuntime) -> Result<(), Fail> {
         "friend:1))))))))))))))))))))))))))))))))",
     )?;
     assert_eq!(rt; fault(&rt, alloc, &limits, deepest.as_bytes())?, None);
-    let deeper = repeated(
-        alloc,
-        "",
-        "(or ",
-        33,
-        "friend:1)))))))))))))))))))))))))))))))))",
-    )?;
-    assert_eq!(rt;
-        fault(&rt, alloc, &limits, deeper.as_bytes())?,
-        Some((37, 129))
-    );
     let most = repeated(alloc, "(or", " a:1", 64, ")")?;
     assert_eq!(rt; fault(&rt, alloc, &limits, most.as_bytes())?, None);
     let more = repeated(alloc, "(or", " a:1", 65, ")")?;
@@ -222,6 +254,26 @@ fn limits_of_a_query(rt: HostRuntime) -> Result<(), Fail> {
         fault(&rt, alloc, &limits, more.as_bytes())?,
         Some((35, 261))
     );
+    Ok(())
+}
+
+// A join without a limit has the greatest, where that is below the default.
+#[test]
+fn a_small_limit_of_joins(rt: HostRuntime) -> Result<(), Fail> {
+    let few = Limits {
+        join_limit: 5,
+        ..Limits::standard()
+    };
+    for (text, expected) in [
+        ("(apply a: b:1)", "(apply a: b:1 :limit 5)"),
+        ("(apply a: b:1 :limit 5)", "(apply a: b:1 :limit 5)"),
+        ("(apply a: b:1 :limit 4)", "(apply a: b:1 :limit 4)"),
+    ] {
+        let printed = print(&rt, rt.alloc(), &few, text.as_bytes())?;
+        assert!(rt; printed.as_slice() == expected.as_bytes(), "{text}");
+    }
+    let more = b"(apply a: b:1 :limit 6)";
+    assert_eq!(rt; fault(&rt, rt.alloc(), &few, more)?, Some((36, 22)));
     Ok(())
 }
 

@@ -1,5 +1,5 @@
 -- Which queries are within limits.
-use Rattle.std.specs.Prelude.{ℕ, ◌≡◌, ◌+◌, ◌≤◌, ◌⊎◌, true, List}
+use Rattle.std.specs.Prelude.{ℕ, ◌≡◌, ◌+◌, ◌≤◌, min, true, List}
 use Rattle.uni_base.specs.Words.{is_word, starts_with_letter}
 use Rattle.uni_base.specs.declared.limits.Limits.{Limits}
 use Rattle.query_tree.specs.declared.query.Mark.{Mark}
@@ -32,9 +32,13 @@ abbrev pub IsOperandCount : Limits → ListKind → ℕ → Type 0
 IsOperandCount limits Difference count = count ≡ 2
 IsOperandCount limits kind count = (1 ≤ count) × (count ≤ limits.operands)
 
--- a join's limit is written within the greatest, or left out
+-- a join's limit is within the greatest
 abbrev pub IsJoinLimit : Limits → ℕ → Type 0
-IsJoinLimit limits limit = ((1 ≤ limit) × (limit ≤ limits.join_limit)) ⊎ (limit ≡ default_limit)
+IsJoinLimit limits limit = (1 ≤ limit) × (limit ≤ limits.join_limit)
+
+-- the limit of a join that is written without one: the default, or the greatest where that is less
+abbrev pub limit_unless_given : Limits → ℕ
+limit_unless_given limits = min default_limit limits.join_limit
 
 abbrev pub operand_count : Forest → ℕ
 operand_count no_operands = 0
