@@ -56,8 +56,8 @@ feed_after limits schema feed (item ∷ items) = feed_after limits schema (fed l
 abbrev pub journal_of : Limits → Declarations → List (List Item) → List (List Command)
 journal_of limits schema rounds = (feed_after limits schema opening_feed (joined rounds)).journal
 
--- a record has a mark for each line of each round: the number of the version that an `ask` was answered
--- at, and none for other lines
+-- a record has a mark for each line that counts, round by round: the number of the version that an `ask`
+-- was answered at, and none for other lines
 abbrev pub Mark : Type 0
 Mark = Option ℕ
 

@@ -16,8 +16,8 @@ counted_after before Go = 0
 counted_after before Skipped = before
 counted_after before (Item item) = before + 1
 
--- a line in front of rounds: `go` is all that is left of a round; any other line stands in the first of
--- them, which it begins where there is none
+-- a line in front of the rounds of the lines after it: `go` ends a round, in which no item follows; any
+-- other line belongs to the first of them, which it begins where there is none; a skipped line has no item
 abbrev pub in_front : RoundLine → List (List AnItem) → List (List AnItem)
 in_front Go rounds = [] ∷ rounds
 in_front Skipped [] = [] ∷ []
