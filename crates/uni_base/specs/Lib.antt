@@ -1,6 +1,8 @@
+pub mod Cursors
 pub mod EdgeOrder
 pub mod Fields
 pub mod RankOrder
+pub mod Walks
 pub mod Words
 pub mod MemoryStreams
 pub mod Numbers

@@ -14,6 +14,7 @@ standard_limits = record {
   script = 2 ^ 36;
   sessions = 64;
   ask_limit = 5000;
+  ask_limit_2 = 50000;
   join_limit = 5000;
   depth = 32;
   nodes = 256;
@@ -32,6 +33,7 @@ pub record IsWithinStandard (limits : Limits) : Type 0 where
   pub script : limits.script ≤ 2 ^ 36
   pub sessions : limits.sessions ≤ 64
   pub ask_limit : limits.ask_limit ≤ 5000
+  pub ask_limit_2 : limits.ask_limit_2 ≤ 50000
   pub join_limit : limits.join_limit ≤ 5000
   pub some_join : 1 ≤ limits.join_limit
   pub depth : limits.depth ≤ 32

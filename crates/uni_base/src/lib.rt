@@ -4,6 +4,7 @@
 #![tactic(auto)]
 
 mod copy;
+mod cursor;
 mod edge;
 mod entity;
 mod fields;
@@ -15,11 +16,13 @@ mod rows;
 mod sink;
 mod source;
 mod standard;
+mod steps;
 mod sure;
 #[cfg(test)]
 mod tests;
 mod word;
 
+pub use cursor::DocCursor;
 pub use edge::{Audience, EdgeRef, Held, Key};
 pub use entity::{DocKey, EntityId, Rank};
 pub use fields::cut_at;
@@ -27,9 +30,10 @@ pub use limits::Limits;
 pub use memory_sink::MemorySink;
 pub use memory_source::MemorySource;
 pub use number::{read_between, read_id, read_number};
-pub use rows::{DocList, EdgeList, HeldList, Rows, Text};
+pub use rows::{DocList, EdgeList, HeldList, Rows, Text, WordList};
 pub use sink::Sink;
 pub use source::{Failed, Source};
 pub use standard::{StdSink, StdSource};
+pub use steps::Steps;
 pub use sure::{SureSink, SureSource};
 pub use word::Word;

@@ -20,8 +20,10 @@ pub struct Limits {
     pub script: u64,
     /// sessions that may ask
     pub sessions: u64,
-    /// hits of a query
+    /// hits of a query in format 1
     pub ask_limit: u64,
+    /// hits of a query in format 2
+    pub ask_limit_2: u64,
     /// hits of a join's inner query
     pub join_limit: u64,
     /// parentheses that a query opens at once
@@ -48,6 +50,7 @@ impl Limits {
             script: 1 << 36,
             sessions: 64,
             ask_limit: 5000,
+            ask_limit_2: 50_000,
             join_limit: 5000,
             depth: 32,
             nodes: 256,

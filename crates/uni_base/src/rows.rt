@@ -1,6 +1,6 @@
 ghost use Rattle.std.specs.Prelude.{◌≡◌, ◌==◌, [], ◌∷◌, ◌++◌, length, OnOk, OnErr, option_copied, slice_get};
 
-use crate::{DocKey, EdgeRef, Held};
+use crate::{DocKey, EdgeRef, Held, Word};
 use std::alloc::{AllocError, Global};
 use std::marker::Model;
 
@@ -21,6 +21,9 @@ pub type HeldList = Rows<Held>;
 
 /// Edges.
 pub type EdgeList = Rows<EdgeRef>;
+
+/// Words.
+pub type WordList = Rows<Word>;
 
 impl<T> Model for Rows<T> {
     ghost use Rattle.std.specs.Prelude.{List};
@@ -81,5 +84,15 @@ impl<T: Drop> Rows<T> {
     {
         self.items.push(item)?;
         Ok(())
+    }
+}
+
+impl<T: Copy> Rows<T> {
+    /// Adds items at the end. A list that finds no memory stays as it was.
+    pub fn extend_from_slice(&mut self, items: &[T]) -> Result<(), AllocError>
+        ensures ok { OnOk result (self.new ≡ self.old ++ items.now) }
+        ensures err { OnErr result (self.new ≡ self.old) }
+    {
+        self.items.extend_from_slice(items)
     }
 }
