@@ -1,5 +1,5 @@
 mod Kept
-mod Prefixes
+pub mod Prefixes
 mod Stages
 mod Sums
 pub mod Steps

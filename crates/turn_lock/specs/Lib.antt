@@ -1,3 +1,4 @@
 pub mod Law
+pub mod Places
 pub mod Seats
 pub mod Steps

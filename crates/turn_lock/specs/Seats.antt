@@ -1,42 +1,76 @@
--- What clauses say of seats and turns.
-use Rattle.std.specs.Prelude.{◌≡◌, ℕ, ◌^◌, ◌<◌, Bool, false, List, [], ◌∷◌, Option, None}
+-- What clauses say of seats, notes and turns.
+use Rattle.std.specs.Prelude.{◌≡◌, ℕ, false, List}
 use Rattle.atomic_table.specs.Seated.{TableId}
-use Rattle.atomic_table.specs.declared.shared.Seat.{Seat}
-use Rattle.turn_lock.specs.declared.law.View.{View}
-use Rattle.turn_lock.specs.declared.law.Stage.TheVariants.{Away, Turns}
 use Rattle.turn_lock.specs.declared.lock.TurnLock.{TurnLock}
+use Rattle.turn_lock.specs.declared.recorded.Recorded.{Ghosts}
+use Rattle.turn_lock.specs.declared.seats.Note.{Note}
+use Rattle.turn_lock.specs.declared.seats.Seat.{Seat}
 use Rattle.turn_lock.specs.declared.seats.Turn.{Turn}
-use Rattle.turn_lock.specs.Law.{allowance}
+use Rattle.turn_lock.specs.declared.seats.WriterSeat.{WriterSeat}
+use Rattle.turn_lock.specs.Places.{IsOf, seen, Rests, IsInTurn, HoldsTurn, IsSamePlace}
 
-module _ {S E : Type 0} where
-  -- which lock it is
-  abbrev pub lock_id : TurnLock S E → TableId
-  lock_id lock = lock.table.shared.table_id
+module _ {S E : Type 0} {g : Ghosts S E} where
+  -- which lock a seat, the writer's seat and a note are at
+  abbrev pub seat_lock : Seat S E g → TableId
+  seat_lock seat = seat.place.table_id
 
-  -- the seat is at this lock
-  abbrev pub IsOf : TurnLock S E → Seat (Option S) (View E) → Type 0
-  IsOf lock p = p.table_id ≡ lock_id lock
+  abbrev pub writer_lock : WriterSeat S E g → TableId
+  writer_lock writer = writer.place.table_id
 
-  -- the list that a seat, the writer's seat or a note has seen
-  abbrev pub seen : Seat (Option S) (View E) → List E
-  seen p = p.me.0.seen
+  abbrev pub note_lock : Note S E g → TableId
+  note_lock note = note.place.table_id
+
+  -- they are at this lock
+  abbrev pub IsSeatOf : TurnLock S E → Seat S E g → Type 0
+  IsSeatOf lock seat = IsOf lock seat.place
+
+  abbrev pub IsWriterOf : TurnLock S E → WriterSeat S E g → Type 0
+  IsWriterOf lock writer = IsOf lock writer.place
+
+  abbrev pub IsNoteOf : TurnLock S E → Note S E g → Type 0
+  IsNoteOf lock note = IsOf lock note.place
+
+  -- the list that each has seen
+  abbrev pub seat_seen : Seat S E g → List E
+  seat_seen seat = seen seat.place
+
+  abbrev pub writer_seen : WriterSeat S E g → List E
+  writer_seen writer = seen writer.place
+
+  abbrev pub note_seen : Note S E g → List E
+  note_seen note = seen note.place
+
+  -- how many turns each has taken, and how many seats the writer has made
+  abbrev pub seat_turns : Seat S E g → ℕ
+  seat_turns seat = seat.turns
+
+  abbrev pub writer_turns : WriterSeat S E g → ℕ
+  writer_turns writer = writer.turns
+
+  abbrev pub writer_made : WriterSeat S E g → ℕ
+  writer_made writer = writer.made
 
   -- it holds no turn
-  abbrev pub Rests : Seat (Option S) (View E) → Type 0
-  Rests p = (p.me.0.stage ≡ Away) × (p.me.1 ≡ [])
+  abbrev pub SeatRests : Seat S E g → Type 0
+  SeatRests seat = Rests seat.place
 
-  -- it holds a turn, which was entered with this list. Its slot is empty, since the value is with the caller
-  abbrev pub HoldsTurn : Seat (Option S) (View E) → List E → Bool → Type 0
-  HoldsTurn p list added = (t : ℕ) × (p.me.0.stage ≡ Turns t list added) × (p.me.1 ≡ (0, None) ∷ [])
+  abbrev pub WriterRests : WriterSeat S E g → Type 0
+  WriterRests writer = Rests writer.place
 
-  -- the turn is the one that this seat holds, and was entered with the list that the seat has seen
-  abbrev pub IsTurnOf : Turn S E → Seat (Option S) (View E) → Type 0
-  IsTurnOf turn p = (turn.of.value.table_id ≡ p.table_id) × (turn.of.value.id ≡ p.id) × HoldsTurn p (seen p) false
+  -- it holds a turn
+  abbrev pub IsSeatInTurn : Seat S E g → Type 0
+  IsSeatInTurn seat = IsInTurn seat.place
 
-  -- it may take a turn
-  abbrev pub MayTurn : Seat (Option S) (View E) → Type 0
-  MayTurn p = (p.me.0.turns < 2 ^ 56) × (p.me.0.turns < allowance p.me.0.role p.me.0.made)
+  -- the turn is the one that it holds, and was entered with the list that it has seen
+  abbrev pub IsTurnOfSeat : Turn S E → Seat S E g → Type 0
+  IsTurnOfSeat turn seat = (turn.of.value.table_id ≡ seat.place.table_id) × (turn.of.value.id ≡ seat.place.id) × HoldsTurn seat.place (seen seat.place) false
 
-  -- only what was seen has changed
-  abbrev pub IsSameSeat : Seat (Option S) (View E) → Seat (Option S) (View E) → Type 0
-  IsSameSeat p q = (q.table_id ≡ p.table_id) × (q.id ≡ p.id) × (q.me.0.stage ≡ p.me.0.stage) × (q.me.1 ≡ p.me.1)
+  abbrev pub IsTurnOfWriter : Turn S E → WriterSeat S E g → Type 0
+  IsTurnOfWriter turn writer = (turn.of.value.table_id ≡ writer.place.table_id) × (turn.of.value.id ≡ writer.place.id) × HoldsTurn writer.place (seen writer.place) false
+
+  -- only what was seen may have changed: it is at its lock, and rests or holds its turn as before
+  abbrev pub IsSameSeat : Seat S E g → Seat S E g → Type 0
+  IsSameSeat old new = IsSamePlace old.place new.place
+
+  abbrev pub IsSameWriter : WriterSeat S E g → WriterSeat S E g → Type 0
+  IsSameWriter old new = IsSamePlace old.place new.place

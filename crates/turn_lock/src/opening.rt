@@ -1,6 +1,6 @@
 //! The lock and its seats are made.
 ghost use Rattle.std.specs.Prelude.{◌≡◌, ◌+◌, ◌<◌, [], IfOk};
-ghost use Rattle.turn_lock.specs.Seats.{IsOf, seen, Rests, IsSameSeat};
+ghost use Rattle.turn_lock.specs.Seats.{IsSeatOf, IsWriterOf, seat_seen, writer_seen, SeatRests, WriterRests, seat_turns, writer_turns, writer_made, IsSameWriter};
 
 use crate::lock::TurnLock;
 use crate::plays::NewSeat;
@@ -13,10 +13,10 @@ impl<S: Recorded> TurnLock<S> {
     /// The lock, and its writer's seat, from which all other seats come.
     pub fn new(alloc: Global, value: S) -> Result<(TurnLock<S>, WriterSeat<S>), AllocError>
         requires { S.stands_for value [] }
-        ensures of { IfOk result (λ t. IsOf t.0 t.1.place) }
-        ensures seen { IfOk result (λ t. seen t.1.place ≡ []) }
-        ensures rests { IfOk result (λ t. Rests t.1.place) }
-        ensures counts { IfOk result (λ t. (t.1.made ≡ 0) × (t.1.turns ≡ 0)) }
+        ensures of { IfOk result (λ t. IsWriterOf t.0 t.1) }
+        ensures seen { IfOk result (λ t. writer_seen t.1 ≡ []) }
+        ensures rests { IfOk result (λ t. WriterRests t.1) }
+        ensures counts { IfOk result (λ t. (writer_made t.1 ≡ 0) × (writer_turns t.1 ≡ 0)) }
     {
         let mut slots = Vec::with_capacity(alloc, 1)?;
         let Ok(()) = slots.push(Some(value)) else {
@@ -37,14 +37,14 @@ impl<S: Recorded> TurnLock<S> {
 
     /// A new seat, which has seen what the writer has.
     pub fn seat(&self, from: &mut WriterSeat<S>) -> Seat<S>
-        requires of { IsOf self.now from.old.place }
-        requires few { from.old.made < 127 }
-        ensures of { IsOf self.now result.place }
-        ensures seen { seen result.place ≡ seen from.old.place }
-        ensures rests { Rests result.place }
-        ensures turns { result.turns ≡ 0 }
-        ensures made { from.new.made ≡ from.old.made + 1 }
-        ensures kept { IsSameSeat from.old.place from.new.place × (seen from.new.place ≡ seen from.old.place) × (from.new.turns ≡ from.old.turns) }
+        requires of { IsWriterOf self.now from.old }
+        requires few { writer_made from.old < 127 }
+        ensures of { IsSeatOf self.now result }
+        ensures seen { seat_seen result ≡ writer_seen from.old }
+        ensures rests { SeatRests result }
+        ensures turns { seat_turns result ≡ 0 }
+        ensures made { writer_made from.new ≡ writer_made from.old + 1 }
+        ensures kept { IsSameWriter from.old from.new × (writer_seen from.new ≡ writer_seen from.old) × (writer_turns from.new ≡ writer_turns from.old) }
     {
         let place = self.table.shared.split_seat::<NewSeat>(&mut from.place);
         from.made += 1;

@@ -44,25 +44,29 @@ pub struct Turn<S: Recorded> {
 }
 
 impl<S: Recorded> Seat<S> {
+    ghost use Rattle.turn_lock.specs.Seats.{seat_turns};
+
     /// The turns that this seat has taken.
     pub fn turns(&self) -> u64
-        ensures { result ≡ self.now.turns }
+        ensures { result ≡ seat_turns self.now }
     {
         self.turns
     }
 }
 
 impl<S: Recorded> WriterSeat<S> {
+    ghost use Rattle.turn_lock.specs.Seats.{writer_made, writer_turns};
+
     /// The seats that this one has made.
     pub fn made(&self) -> u32
-        ensures { result ≡ self.now.made }
+        ensures { result ≡ writer_made self.now }
     {
         self.made
     }
 
     /// The turns that this seat has taken.
     pub fn turns(&self) -> u64
-        ensures { result ≡ self.now.turns }
+        ensures { result ≡ writer_turns self.now }
     {
         self.turns
     }

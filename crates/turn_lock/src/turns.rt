@@ -1,7 +1,8 @@
 //! Taking turns.
 ghost use Rattle.std.specs.Prelude.{◌≡◌, ◌+◌, ◌^◌, ◌<◌, Bool, false, List, [], None};
 ghost use mathlib.Core.List.{IsPrefix};
-ghost use Rattle.turn_lock.specs.Seats.{IsOf, seen, Rests, HoldsTurn, IsTurnOf, MayTurn};
+ghost use Rattle.turn_lock.specs.Places.{IsOf, seen, Rests, HoldsTurn, MayTurn};
+ghost use Rattle.turn_lock.specs.Seats.{IsSeatOf, seat_seen, seat_turns, SeatRests, IsTurnOfSeat};
 ghost use Rattle.turn_lock.specs.Steps.{Served, ended};
 ghost use Rattle.turn_lock.specs.declared.law.Role.TheVariants.{Writes};
 ghost use Rattle.turn_lock.specs.declared.law.Stage.TheVariants.{Waits};
@@ -15,10 +16,10 @@ use std::snapshot::Snapshot;
 use std::sync::Wait;
 
 /// The word that has the next ticket.
-const TICKET: usize = 0;
+pub(crate) const TICKET: usize = 0;
 
 /// The word that has the ticket that is served.
-const SERVING: usize = 1;
+pub(crate) const SERVING: usize = 1;
 
 /// The word that has the number of entries.
 pub(crate) const COUNT: usize = 2;
@@ -74,14 +75,14 @@ impl<S: Recorded> TurnLock<S> {
 
     /// Waits for a turn of this seat, and takes the value out. The value stands for the list that the seat has then seen.
     pub fn enter<R: Wait>(&self, rt: &R, seat: &mut Seat<S>) -> Turn<S>
-        requires of { IsOf self.now seat.old.place }
-        requires few { seat.old.turns < 2 ^ 56 }
-        requires rests { Rests seat.old.place }
-        ensures of { IsOf self.now seat.new.place }
-        ensures turns { seat.new.turns ≡ seat.old.turns + 1 }
-        ensures turn { IsTurnOf result seat.new.place }
-        ensures value { S.stands_for result.value (seen seat.new.place) }
-        ensures later { IsPrefix (seen seat.old.place) (seen seat.new.place) }
+        requires of { IsSeatOf self.now seat.old }
+        requires few { seat_turns seat.old < 2 ^ 56 }
+        requires rests { SeatRests seat.old }
+        ensures of { IsSeatOf self.now seat.new }
+        ensures turns { seat_turns seat.new ≡ seat_turns seat.old + 1 }
+        ensures turn { IsTurnOfSeat result seat.new }
+        ensures value { S.stands_for result.value (seat_seen seat.new) }
+        ensures later { IsPrefix (seat_seen seat.old) (seat_seen seat.new) }
     {
         let value = self.take(rt, &mut seat.place);
         seat.turns += 1;
@@ -93,12 +94,12 @@ impl<S: Recorded> TurnLock<S> {
 
     /// Gives the value back, which still stands for the list that it was entered with.
     pub fn leave(&self, seat: &mut Seat<S>, turn: Turn<S>)
-        requires of { IsOf self.now seat.old.place }
-        requires turn { IsTurnOf turn seat.old.place }
-        requires value { S.stands_for turn.value (seen seat.old.place) }
-        ensures of { IsOf self.now seat.new.place }
-        ensures rests { Rests seat.new.place }
-        ensures kept { (seat.new.turns ≡ seat.old.turns) × (seen seat.new.place ≡ seen seat.old.place) }
+        requires of { IsSeatOf self.now seat.old }
+        requires turn { IsTurnOfSeat turn seat.old }
+        requires value { S.stands_for turn.value (seat_seen seat.old) }
+        ensures of { IsSeatOf self.now seat.new }
+        ensures rests { SeatRests seat.new }
+        ensures kept { (seat_turns seat.new ≡ seat_turns seat.old) × (seat_seen seat.new ≡ seat_seen seat.old) }
     {
         let Turn { value, of: _ } = turn;
         self.give_back(&mut seat.place, value);

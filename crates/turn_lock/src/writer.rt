@@ -1,6 +1,7 @@
 //! The writer's turns, in which the history grows.
 ghost use Rattle.std.specs.Prelude.{◌≡◌, ◌+◌, ◌^◌, ◌<◌, [], ◌∷◌, ◌++◌, true, false, Some};
-ghost use Rattle.turn_lock.specs.Seats.{IsOf, seen, Rests, HoldsTurn, IsTurnOf};
+ghost use Rattle.turn_lock.specs.Places.{IsOf, seen, HoldsTurn};
+ghost use Rattle.turn_lock.specs.Seats.{IsWriterOf, writer_seen, writer_turns, writer_made, WriterRests, IsTurnOfWriter};
 ghost use Rattle.turn_lock.specs.declared.law.Role.TheVariants.{Writes};
 
 use crate::law::Place;
@@ -30,14 +31,14 @@ impl<S: Recorded> TurnLock<S> {
 
     /// Waits for a turn of the writer, and takes the value out. The value stands for the list that the writer has seen, the whole history.
     pub fn enter_writer<R: Wait>(&self, rt: &R, writer: &mut WriterSeat<S>) -> Turn<S>
-        requires of { IsOf self.now writer.old.place }
-        requires few { writer.old.turns < 2 ^ 56 }
-        requires rests { Rests writer.old.place }
-        ensures of { IsOf self.now writer.new.place }
-        ensures counts { (writer.new.turns ≡ writer.old.turns + 1) × (writer.new.made ≡ writer.old.made) }
-        ensures turn { IsTurnOf result writer.new.place }
-        ensures value { S.stands_for result.value (seen writer.new.place) }
-        ensures same { seen writer.new.place ≡ seen writer.old.place }
+        requires of { IsWriterOf self.now writer.old }
+        requires few { writer_turns writer.old < 2 ^ 56 }
+        requires rests { WriterRests writer.old }
+        ensures of { IsWriterOf self.now writer.new }
+        ensures counts { (writer_turns writer.new ≡ writer_turns writer.old + 1) × (writer_made writer.new ≡ writer_made writer.old) }
+        ensures turn { IsTurnOfWriter result writer.new }
+        ensures value { S.stands_for result.value (writer_seen writer.new) }
+        ensures same { writer_seen writer.new ≡ writer_seen writer.old }
     {
         let value = self.take(rt, &mut writer.place);
         writer.turns += 1;
@@ -49,13 +50,13 @@ impl<S: Recorded> TurnLock<S> {
 
     /// Gives the value back, which still stands for the list that it was entered with.
     pub fn leave_writer(&self, writer: &mut WriterSeat<S>, turn: Turn<S>)
-        requires of { IsOf self.now writer.old.place }
-        requires turn { IsTurnOf turn writer.old.place }
-        requires value { S.stands_for turn.value (seen writer.old.place) }
-        ensures of { IsOf self.now writer.new.place }
-        ensures rests { Rests writer.new.place }
-        ensures counts { (writer.new.turns ≡ writer.old.turns) × (writer.new.made ≡ writer.old.made) }
-        ensures same { seen writer.new.place ≡ seen writer.old.place }
+        requires of { IsWriterOf self.now writer.old }
+        requires turn { IsTurnOfWriter turn writer.old }
+        requires value { S.stands_for turn.value (writer_seen writer.old) }
+        ensures of { IsWriterOf self.now writer.new }
+        ensures rests { WriterRests writer.new }
+        ensures counts { (writer_turns writer.new ≡ writer_turns writer.old) × (writer_made writer.new ≡ writer_made writer.old) }
+        ensures same { writer_seen writer.new ≡ writer_seen writer.old }
     {
         let Turn { value, of: _ } = turn;
         self.give_back(&mut writer.place, value);
@@ -63,13 +64,13 @@ impl<S: Recorded> TurnLock<S> {
 
     /// Adds the entry to the history, and gives the value back, which stands for the list that it was entered with, followed by the entry.
     pub fn leave_with_entry(&self, writer: &mut WriterSeat<S>, turn: Turn<S>, entry: &S::Entry)
-        requires of { IsOf self.now writer.old.place }
-        requires turn { IsTurnOf turn writer.old.place }
-        requires value { S.stands_for turn.value (seen writer.old.place ++ entry.now ∷ []) }
-        ensures of { IsOf self.now writer.new.place }
-        ensures rests { Rests writer.new.place }
-        ensures counts { (writer.new.turns ≡ writer.old.turns) × (writer.new.made ≡ writer.old.made) }
-        ensures added { seen writer.new.place ≡ seen writer.old.place ++ entry.now ∷ [] }
+        requires of { IsWriterOf self.now writer.old }
+        requires turn { IsTurnOfWriter turn writer.old }
+        requires value { S.stands_for turn.value (writer_seen writer.old ++ entry.now ∷ []) }
+        ensures of { IsWriterOf self.now writer.new }
+        ensures rests { WriterRests writer.new }
+        ensures counts { (writer_turns writer.new ≡ writer_turns writer.old) × (writer_made writer.new ≡ writer_made writer.old) }
+        ensures added { writer_seen writer.new ≡ writer_seen writer.old ++ entry.now ∷ [] }
     {
         let Turn { value, of: _ } = turn;
         self.count::<Brand>(&mut writer.place, entry);

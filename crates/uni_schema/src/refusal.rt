@@ -2,15 +2,19 @@ ghost use Rattle.std.specs.Prelude.{◌≡◌};
 ghost use Rattle.uni_schema.specs.Refusals.{code_of};
 
 use std::alloc::AllocError;
+use thiserror::Error;
 
 /// Why a header is refused, with the line that shows it.
-#[derive(Clone, Copy, Debug, PartialEq, Eq)]
+#[derive(Clone, Copy, Debug, PartialEq, Eq, Error)]
 pub enum SchemaRefusal {
     /// The line is not of the one form that its place has so far.
+    #[error("line {0} is not of its form")]
     NotYet(u64),
     /// The input ends before `begin`; the line is the number of lines plus 1.
+    #[error("line {0} is missing: the header has no begin")]
     NoBegin(u64),
-    /// Memory was wanting.
+    /// Memory ran out.
+    #[error("memory ran out")]
     Memory,
 }
 

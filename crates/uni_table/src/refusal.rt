@@ -2,19 +2,25 @@ ghost use Rattle.std.specs.Prelude.{◌≡◌};
 ghost use Rattle.uni_table.specs.Refusals.{code_of};
 
 use std::alloc::AllocError;
+use thiserror::Error;
 
 /// Why a command is refused.
-#[derive(Clone, Copy, Debug, PartialEq, Eq)]
+#[derive(Clone, Copy, Debug, PartialEq, Eq, Error)]
 pub enum FeedRefusal {
     /// The key spells no entity of the vertical that edges of the type start at.
+    #[error("the source is no entity of the type's source vertical")]
     NoSource,
     /// The target is no entity of the type's target vertical.
+    #[error("the target is no entity of the type's target vertical")]
     NoTarget,
     /// The id is an entity of another vertical.
+    #[error("the id is an entity of another vertical")]
     Elsewhere,
     /// The table has no room for a new row.
+    #[error("the table is full")]
     TableFull,
-    /// Memory was wanting.
+    /// Memory ran out.
+    #[error("memory ran out")]
     Memory,
 }
 

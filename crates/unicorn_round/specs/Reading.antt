@@ -43,9 +43,11 @@ pub record IsFront (state : LineState) (len : ℕ) : Type 0 where
   pub line : has_lf (take len state.ahead) ≡ false
   pub ends : (slice_get state.ahead len ≡ Some 10) ⊎ ((state.ended ≡ true) × (length state.ahead ≡ len) × (0 < len))
 
--- the buffer of a reader: what it has searched holds no LF, and all sizes fit
+-- the buffer of a reader: it holds at most what is ahead and 65,536 bytes more, what it has searched
+-- holds no LF, and all sizes fit
 pub record IsKept (buffer : List ℕ) (start searched : ℕ) (chunk : List ℕ) (taken limit : ℕ) : Type 0 where
   pub begun : start ≤ length buffer
+  pub bounded : start ≤ 65536
   pub within : start + searched ≤ length buffer
   pub none : has_lf (take searched (drop start buffer)) ≡ false
   pub full : length chunk ≡ 65536

@@ -103,8 +103,14 @@ impl LineReader {
         requires { len ≤ length self.old.ahead }
         ensures { self.new ≡ record self.old { ahead = drop (len + 1) self.old.ahead } }
     {
-        self.start = (self.start + len + 1).min(self.buffer.len());
+        let passed = (self.start + len + 1).min(self.buffer.len());
         self.searched = 0;
+        if passed > READ {
+            give_back(&mut self.buffer, passed);
+            self.start = 0;
+        } else {
+            self.start = passed;
+        }
     }
 
     // The place of the first LF ahead.
@@ -157,12 +163,20 @@ impl LineReader {
         ensures { self.new ≡ self.old }
     {
         if self.start > 0 {
-            let rest = self.buffer.len() - self.start;
-            self.buffer.rotate_left(self.start);
-            self.buffer.truncate(rest);
+            give_back(&mut self.buffer, self.start);
             self.start = 0;
         }
     }
+}
+
+// Gives back the first bytes of a buffer, so many.
+fn give_back(buffer: &mut Vec<u8>, passed: usize)
+    requires { passed ≤ vec_len buffer.old }
+    ensures { buffer.new.items ≡ drop passed buffer.old.items }
+{
+    let rest = buffer.len() - passed;
+    buffer.rotate_left(passed);
+    buffer.truncate(rest);
 }
 
 // Adds what one read of at most so many bytes gives to a buffer, by way of a chunk.

@@ -71,12 +71,26 @@ fn each_read_fails_in_turn(rt: HostRuntime) -> Result<(), Fail> {
     Ok(())
 }
 
+// With room for all of a round in one write, there are two: each round is offered in one piece.
 #[test]
 fn each_write_fails_in_turn(rt: HostRuntime) -> Result<(), Fail> {
-    for most in [1, 7, 100] {
+    for most in [1, 7, 100, 65_536] {
         let first = count(FIRST, most);
         let rest = ANSWERS.len().saturating_sub(FIRST);
-        for before in 0..first.saturating_add(count(rest, most)) {
+        let writes = first.saturating_add(count(rest, most));
+        // the write after the last, which is not made
+        let source = whole(rt.alloc(), text(rt.alloc(), &[HEADER, FEED, ROUNDS])?)?;
+        let fails = vec![in rt.alloc(); (writes as u64).saturating_add(1)]?;
+        let sink = MemorySink::new(rt.alloc(), 65_536, most, fails)?;
+        serve(
+            &rt,
+            rt.alloc(),
+            Limits::standard(),
+            source,
+            sink,
+            (ANSWERS, 0),
+        )?;
+        for before in 0..writes {
             let taken = if before <= first {
                 before.saturating_mul(most).min(FIRST)
             } else {

@@ -149,6 +149,22 @@ fn a_line_too_many_has_no_form(rt: HostRuntime) -> Result<(), Fail> {
     Ok(())
 }
 
+// The first line of this header is refused once its LF, byte 10 of the script, is read. Where that
+// is the one byte past the limit of a script, the script is too long first.
+#[test]
+fn a_refused_line_that_ends_past_the_limit(rt: HostRuntime) -> Result<(), Fail> {
+    for (script, want, number) in [(10, "notyet 1\n", 3), (9, "", 6)] {
+        let limits = Limits {
+            script,
+            ..Limits::standard()
+        };
+        let source = whole(rt.alloc(), text(rt.alloc(), &["unicorn 2\nbegin\n"])?)?;
+        let sink = roomy(rt.alloc())?;
+        serve(&rt, rt.alloc(), limits, source, sink, (want, number))?;
+    }
+    Ok(())
+}
+
 // The script has 235 bytes, and its first round closes with byte 215.
 #[test]
 fn a_script_that_is_too_long(rt: HostRuntime) -> Result<(), Fail> {

@@ -1,5 +1,5 @@
 use Rattle.std.proofs.Common.{rules, true, sym, ap, ◌∙◌}
-use Rattle.turn_lock.specs.Seats.{seen}
+use Rattle.turn_lock.specs.Places.{seen}
 use Rattle.turn_lock.specs.declared.law.Stage.TheVariants.{Turns}
 use Rattle.turn_lock.proofs.Steps.{adds}
 use Rattle.turn_lock.proofs.lock.TurnLock.count.Goals as goal
