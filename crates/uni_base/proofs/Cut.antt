@@ -1,12 +1,9 @@
 -- A text with a separator, and one with none.
+use Rattle.std.proofs.lemmas.Bool.{or_parts}
 use Rattle.std.proofs.Common.{◌≡◌, ℕ, ◌<◌, ◌==◌, ◌||◌, Bool, true, false, List, [], ◌∷◌, length, get_or, take, drop, Some, None, refl, eq-eqb, arith, zero, suc, ◌+◌, ◌-◌, add-one}
 use Rattle.std.proofs.lemmas.List.{length-drop, take_all}
 use Rattle.std.specs.List.{list_any}
 use Rattle.uni_base.specs.Fields.{cut_at}
-
-or_false : (a b : Bool) → (a || b) ≡ false → (a ≡ false) × (b ≡ false)
-or_false false b e = (refl, e)
-or_false true b e = cc
 
 -- the first separator stands at i
 pub found : (separator : ℕ) (text : List ℕ) (i : ℕ) → i < length text → list_any (λ c. c == separator) (take i text) ≡ false → get_or text i 0 ≡ separator
@@ -14,7 +11,7 @@ pub found : (separator : ℕ) (text : List ℕ) (i : ℕ) → i < length text �
 found separator [] i here none at = absurd (omega arith)
 found separator (c ∷ cs) zero here none at = rw (eq-eqb c separator at) refl
 found separator (c ∷ cs) (suc i) here none at =
-    let parts = or_false (c == separator) (list_any (λ x. x == separator) (take i cs)) none in
+    let parts = or_parts (c == separator) (list_any (λ x. x == separator) (take i cs)) none in
     let rest = found separator cs i (omega arith) parts.1 at in
     rw (parts.0, rest) refl
 
@@ -29,5 +26,5 @@ cut_here separator text i here none at =
 pub absent : (separator : ℕ) (text : List ℕ) → list_any (λ c. c == separator) text ≡ false → cut_at separator text ≡ None
 absent separator [] none = refl
 absent separator (c ∷ cs) none =
-    let parts = or_false (c == separator) (list_any (λ x. x == separator) cs) none in
+    let parts = or_parts (c == separator) (list_any (λ x. x == separator) cs) none in
     rw (parts.0, absent separator cs parts.1) refl

@@ -1,4 +1,5 @@
 -- A name that is new goes last.
+use Rattle.std.proofs.lemmas.Bool.{or_parts}
 use Rattle.std.proofs.Common.{◌≡◌, ℕ, ◌+◌, ◌||◌, Bool, true, false, List, [], ◌∷◌, ◌++◌, length, map, refl, ap, length-append, ◌∙◌, sym}
 use Rattle.std.specs.List.{list_any}
 use Rattle.std.specs.Map.{keys_of, values_of}
@@ -6,16 +7,12 @@ use Rattle.std.proofs.lemmas.List.{map-append}
 use Rattle.indexmap.specs.IndexMap.{insert_entry}
 use Rattle.uni_base.specs.Fields.{same}
 
-or_false : (a b : Bool) → (a || b) ≡ false → (a ≡ false) × (b ≡ false)
-or_false false b e = (refl, e)
-or_false true b e = cc
-
 module _ {V : Type 0} (name : V → List ℕ) (v : V) where
   -- where no name is the same, the entry goes last
   pub insert_entry-fresh : (es : List (List ℕ × V)) → list_any (same (name v)) (keys_of es) ≡ false → insert_entry same es (name v) v ≡ es ++ (name v, v) ∷ []
   insert_entry-fresh [] none = refl
   insert_entry-fresh (e ∷ es) none =
-      let parts = or_false (same (name v) e.0) (list_any (same (name v)) (keys_of es)) none in
+      let parts = or_parts (same (name v) e.0) (list_any (same (name v)) (keys_of es)) none in
       rw (parts.0, insert_entry-fresh es parts.1) refl
 
   -- the entries, with one more under its own name

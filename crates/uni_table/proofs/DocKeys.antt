@@ -1,4 +1,5 @@
 -- The keys of entities in rank order.
+use Rattle.std.proofs.lemmas.Bool.{and_parts}
 use Rattle.std.proofs.Common.{◌≡◌, ◌&&◌, Bool, true, false, refl, sym, ◌∙◌, ap, rules}
 use Rattle.std.specs.Cmp.{IsTotalOrder}
 use Rattle.std.specs.declared.cmp.Ordering.{Ordering}
@@ -8,7 +9,6 @@ use Rattle.uni_base.specs.declared.entity.DocKey.{DocKey}
 use Rattle.uni_base.specs.RankOrder.{doc_cmp}
 use Rattle.std.specs.Cmp.Rules.{comparing}
 use Rattle.uni_table.proofs.Compared.{same_number, is_eq-then}
-use Rattle.uni_table.proofs.Filters.{both_true}
 
 pub doc_total : IsTotalOrder doc_cmp
 doc_total = search (comparing, rules)
@@ -25,7 +25,7 @@ ids_differ b c ids =
 -- keys that rank order does not tell apart are the same
 pub exact_key : (x y : DocKey) → doc_cmp x y ≡ Equal → x ≡ y
 exact_key x y e =
-    let both = both_true (is_eq (nat_cmp y.rank.0 x.rank.0)) (is_eq (nat_cmp x.id y.id)) (sym (is_eq-then (nat_cmp y.rank.0 x.rank.0) (nat_cmp x.id y.id)) ∙ ap is_eq e) in
+    let both = and_parts (is_eq (nat_cmp y.rank.0 x.rank.0)) (is_eq (nat_cmp x.id y.id)) (sym (is_eq-then (nat_cmp y.rank.0 x.rank.0) (nat_cmp x.id y.id)) ∙ ap is_eq e) in
     let ranks : x.rank.0 ≡ y.rank.0 = sym (same_number y.rank.0 x.rank.0 both.0) in
     let ids : x.id ≡ y.id = same_number x.id y.id both.1 in
     λ i. record { rank = record { 0 = ranks i }; id = ids i }

@@ -1,4 +1,5 @@
 -- The lists in rank order have what they are to have, and nothing else.
+use Rattle.std.proofs.lemmas.Bool.{and_parts}
 use Rattle.std.proofs.Common.{◌≡◌, ◌<◌, ◌↔◌, ℕ, ◌==◌, ◌&&◌, true, false, List, [], ◌∷◌, Option, None, Some, refl, sym, ◌∙◌, ap, subst, is_some, filter, length, arith, if◌then◌else◌}
 use Rattle.std.proofs.lemmas.Bool.{eqb-true}
 use Rattle.std.proofs.lemmas.Bool.Decides.{nat_tests}
@@ -24,7 +25,7 @@ use Rattle.uni_table.specs.Ranked.{ranked, doc_at, held_at, reached_of}
 use Rattle.uni_table.specs.TableState.{IsKept}
 use Rattle.uni_table.proofs.Compared.{same_number, equal_from}
 use Rattle.uni_table.proofs.DocKeys.{doc_total, exact_key}
-use Rattle.uni_table.proofs.Filters.{both_true, is_some-option_map}
+use Rattle.uni_table.proofs.Filters.{is_some-option_map}
 use Rattle.uni_table.proofs.Listed.{first_is, later_is, GivenBy, given_by, is_given}
 use Rattle.uni_table.proofs.RankedIn.{fits, among_ranked, ranked_ascends}
 use Rattle.uni_table.proofs.Reached.{edge_leads, declared_type}
@@ -34,7 +35,7 @@ use Rattle.uni_table.proofs.Starts.{edge_to}
 fitting : (vertical : ℕ) (rank : Rank) (o : Option EntityRow) → option_map_or (fits vertical rank.0) o false ≡ true → o ≡ Some (record { vertical = vertical; rank = rank })
 fitting vertical rank None h = cc
 fitting vertical rank (Some row) h =
-    let both = both_true (row.vertical == vertical) (is_eq (nat_cmp row.rank.0 rank.0)) h in
+    let both = and_parts (row.vertical == vertical) (is_eq (nat_cmp row.rank.0 rank.0)) h in
     let verticals : row.vertical ≡ vertical = eqb-true row.vertical vertical both.0 in
     let ranks : row.rank.0 ≡ rank.0 = same_number row.rank.0 rank.0 both.1 in
     λ i. Some (record { vertical = verticals i; rank = record { 0 = ranks i } })

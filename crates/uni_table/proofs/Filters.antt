@@ -96,11 +96,6 @@ pub option_map_or-if : {Y : Type 0} (p : Y → Bool) (b : Bool) (o : Option Y) �
 option_map_or-if p true o = refl
 option_map_or-if p false o = refl
 
--- both parts of an `&&` that is true are
-pub both_true : (a b : Bool) → (a && b) ≡ true → (a ≡ true) × (b ≡ true)
-both_true true b e = (refl, e)
-both_true false b e = cc
-
 -- a test of all that f makes of the items
 pub list_all-map : {X Y : Type 0} (p : Y → Bool) (f : X → Y) (xs : List X) → list_all p (map f xs) ≡ list_all (λ x. p (f x)) xs
 list_all-map p f [] = refl

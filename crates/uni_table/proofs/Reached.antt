@@ -1,5 +1,6 @@
 -- The targets of the edges of a type and key, put in order, are the ranked entities that these edges
 -- lead to.
+use Rattle.std.proofs.lemmas.Bool.{and_parts}
 use Rattle.std.proofs.Common.{◌≡◌, ℕ, ◌==◌, ◌&&◌, Bool, true, false, List, [], ◌∷◌, Option, None, Some, refl, sym, ◌∙◌, ap, is_some, filter, arith, length, ◌<◌, slice_get, get_or}
 use Rattle.std.proofs.lemmas.Option.{slice_get-get_or}
 use Rattle.std.specs.Cmp.{eq_by_cmp_equiv}
@@ -29,7 +30,7 @@ use Rattle.uni_table.specs.Ranked.{ranked, held_at, doc_at, reached_of}
 use Rattle.uni_table.specs.TableState.{IsKept}
 use Rattle.uni_table.proofs.Compared.{same_number, is_eq-then, equal_from}
 use Rattle.uni_table.proofs.DocKeys.{doc_total, and_false, exact_key, flips}
-use Rattle.uni_table.proofs.Filters.{found_passes, filter_map-some, is_some-option_map, both_true, list_all-map}
+use Rattle.uni_table.proofs.Filters.{found_passes, filter_map-some, is_some-option_map, list_all-map}
 use Rattle.uni_table.proofs.Placed.{sorted_apart}
 use Rattle.uni_table.proofs.Starts.{edge_to}
 use Rattle.uni_table.proofs.TargetsOf.{targets_of, among_targets, targets_apart}
@@ -45,9 +46,9 @@ edge_leads schema table number key type_def declared stands id there =
   where
     here : (edge : EdgeRef) → is_at (edge_cmp (edge_to number key id)) edge ≡ true → target_stands schema table edge ≡ true → is_in table type_def.target id ≡ true
     here edge at stands_there =
-        let first = both_true (is_eq (nat_cmp number edge.type_no)) (is_eq (ordering_then (key_cmp key edge.key) (nat_cmp id edge.target)))
+        let first = and_parts (is_eq (nat_cmp number edge.type_no)) (is_eq (ordering_then (key_cmp key edge.key) (nat_cmp id edge.target)))
         (sym (is_eq-then (nat_cmp number edge.type_no) (ordering_then (key_cmp key edge.key) (nat_cmp id edge.target))) ∙ at) in
-        let second = both_true (is_eq (key_cmp key edge.key)) (is_eq (nat_cmp id edge.target))
+        let second = and_parts (is_eq (key_cmp key edge.key)) (is_eq (nat_cmp id edge.target))
         (sym (is_eq-then (key_cmp key edge.key) (nat_cmp id edge.target)) ∙ first.1) in
         let known : type_at schema edge.type_no ≡ Some type_def = ap (type_at schema) (sym (same_number number edge.type_no first.0)) ∙ declared in
         let at_target : is_in table type_def.target edge.target ≡ true = rw known at stands_there in

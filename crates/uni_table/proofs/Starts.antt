@@ -1,4 +1,5 @@
 -- The edges of a type and key lie between two bounds.
+use Rattle.std.proofs.lemmas.Bool.{and_parts}
 use Rattle.std.proofs.Common.{◌≡◌, ℕ, ◌==◌, ◌&&◌, true, false, not, List, [], ◌∷◌, refl, sym, ◌∙◌, ap, subst, if◌then◌else◌, filter, arith, ◌≤◌, Option, None, Some, IsSome}
 use Rattle.std.specs.declared.cmp.Ordering.{Ordering}
 use Rattle.std.specs.declared.cmp.Ordering.TheVariants.{Less, Equal, Greater}
@@ -21,7 +22,6 @@ use Rattle.std.specs.Option.{option_map_or}
 use Rattle.std.specs.Map.{lookup}
 use Rattle.std.specs.BTreeMap.{is_at}
 use Rattle.uni_table.proofs.Compared.{is_eq-nat_cmp, equal_from, equal_self}
-use Rattle.uni_table.proofs.Filters.{both_true}
 
 -- the edge of a type and key to an id
 abbrev pub edge_to : ℕ → Key → ℕ → EdgeRef
@@ -70,7 +70,7 @@ pub entries_between-starts : (schema : Declarations) (table : Contents) (number 
     → entries_between edge_cmp (Included (edge_to number key low)) (Included (edge_to number key high)) es ≡ filter (λ e. starts_at number key e.0) es
 entries_between-starts schema table number key low high ids [] stand = refl
 entries_between-starts schema table number key low high ids (e ∷ es) stand =
-    let both = both_true (target_stands schema table e.0) (list_all (λ (x : EdgeRef × Audience). target_stands schema table x.0) es) stand in
+    let both = and_parts (target_stands schema table e.0) (list_all (λ (x : EdgeRef × Audience). target_stands schema table x.0) es) stand in
     let place = ids.within e.0.target (target_is_some schema table e.0 both.0) in
     rw (lies_between number key low high e.0 place.0 place.1)
     (ap (λ rest. if starts_at number key e.0 then e ∷ rest else rest) (entries_between-starts schema table number key low high ids es both.1))
@@ -82,7 +82,7 @@ no_edges schema table none stand = by table.edges stand
     by : (es : List (EdgeRef × Audience)) → list_all (λ e. target_stands schema table e.0) es ≡ true → es ≡ []
     by [] all = refl
     by (e ∷ es) all =
-        let both = both_true (target_stands schema table e.0) (list_all (λ (x : EdgeRef × Audience). target_stands schema table x.0) es) all in
+        let both = and_parts (target_stands schema table e.0) (list_all (λ (x : EdgeRef × Audience). target_stands schema table x.0) es) all in
         let there = target_is_some schema table e.0 both.0 in
         let gone : IsSome {T = EntityRow} None = subst (λ (es : List (ℕ × EntityRow)). IsSome (lookup (is_at (nat_cmp e.0.target)) es)) none there in
         absurd cc
@@ -90,8 +90,8 @@ no_edges schema table none stand = by table.edges stand
 -- edges of one type and key stand in the order of their targets
 pub edge_cmp-starts : (number : ℕ) (key : Key) (a b : EdgeRef) → starts_at number key a ≡ true → starts_at number key b ≡ true → edge_cmp a b ≡ nat_cmp a.target b.target
 edge_cmp-starts number key a b from to =
-    let first = both_true (number == a.type_no) (is_eq (key_cmp key a.key)) from in
-    let second = both_true (number == b.type_no) (is_eq (key_cmp key b.key)) to in
+    let first = and_parts (number == a.type_no) (is_eq (key_cmp key a.key)) from in
+    let second = and_parts (number == b.type_no) (is_eq (key_cmp key b.key)) to in
     let types : nat_cmp a.type_no b.type_no ≡ Equal = same_types number a.type_no b.type_no first.0 second.0 in
     let keys : key_cmp a.key b.key ≡ Equal =
     sym (key_cmp-total.congr key a.key b.key (equal_from (key_cmp key a.key) first.1)) ∙ equal_from (key_cmp key b.key) second.1 in

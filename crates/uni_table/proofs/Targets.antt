@@ -1,4 +1,5 @@
 -- The ends of edges stay entities of their verticals.
+use Rattle.std.proofs.lemmas.Bool.{and_parts}
 use Rattle.std.proofs.Common.{◌≡◌, ℕ, ◌==◌, Bool, true, false, List, [], ◌∷◌, Option, None, Some, cond, refl, sym, ◌∙◌, is_some, if◌then◌else◌, nat_lt, length, eq-eqb, subst, not, ◌||◌}
 use Rattle.std.proofs.lemmas.Bool.{eqb-true}
 use Rattle.std.specs.declared.cmp.Ordering.{Ordering}
@@ -20,7 +21,7 @@ use Rattle.uni_base.specs.declared.limits.Limits.{Limits}
 use Rattle.uni_table.specs.declared.refusal.FeedRefusal.TheVariants.{NoSource, NoTarget, Elsewhere, TableFull}
 use Rattle.uni_table.specs.Commands.{refuses_entity, refuses_edge}
 use Rattle.uni_table.proofs.Compared.{same_number}
-use Rattle.uni_table.proofs.Filters.{both_true}
+
 use Rattle.uni_table.specs.Contents.{Contents, entity_at, is_in, has_edge, source_stands, key_stands, target_stands}
 
 -- a test of keys holds of the entries with one more
@@ -28,7 +29,7 @@ pub list_all-insert_entry : {K X : Type 0} (cmp : K → K → Ordering) (test : 
     → test k ≡ true → list_all (λ e. test e.0) es ≡ true → list_all (λ e. test e.0) (insert_entry cmp es k v) ≡ true
 list_all-insert_entry cmp test k v [] here all = rw here refl
 list_all-insert_entry {K} {X} cmp test k v (e ∷ es) here all =
-    let parts = both_true (test e.0) (list_all (λ (x : K × X). test x.0) es) all in
+    let parts = and_parts (test e.0) (list_all (λ (x : K × X). test x.0) es) all in
     elim (cmp k e.0) as (λ o. list_all (λ x. test x.0) (match_ordering o ((k, v) ∷ e ∷ es) ((e.0, v) ∷ es) (e ∷ insert_entry cmp es k v)) ≡ true) [
       | Less ↦ rw (here, parts.0) parts.1
       | Equal ↦ rw parts.0 parts.1
@@ -40,7 +41,7 @@ pub list_all-wider : {K : Type 0} (narrow wide : K → Bool) → ((k : K) → na
     → list_all narrow ks ≡ true → list_all wide ks ≡ true
 list_all-wider narrow wide wider [] all = refl
 list_all-wider narrow wide wider (k ∷ ks) all =
-    let parts = both_true (narrow k) (list_all narrow ks) all in
+    let parts = and_parts (narrow k) (list_all narrow ks) all in
     rw (wider k parts.0) (list_all-wider narrow wide wider ks parts.1)
 
 -- a target stands as long as its entity does

@@ -1,4 +1,5 @@
 -- Lines that hold no LF are told by their text, and those of answers hold none.
+use Rattle.std.proofs.lemmas.Bool.{and_parts}
 use Rattle.std.proofs.Common.{◌≡◌, ℕ, zero, suc, Bool, true, false, ◌&&◌, ◌||◌, ◌==◌, nat_lt, nat_le, if◌then◌else◌, List, [], ◌∷◌, ◌++◌, length, map, take, codes, Option, None, Some, IfSome, unwrap_or, filter_map, flat_map, option_map, option_and_then, slice_get, refl, sym, ◌∙◌, ap, subst, arith, append_assoc, ◌+◌}
 use Rattle.std.specs.Option.{option_map_or}
 use Rattle.std.specs.List.{list_all, cons_option, AllByRecursion}
@@ -26,7 +27,7 @@ use Rattle.unicorn_round.specs.Printed.{edge_text, type_text, hit_line, publishe
 use Rattle.unicorn_round.specs.Refusals.{too_many_publishes}
 use Rattle.unicorn_round.specs.Answers.{Mark, Record, Feed, fed, feed_after, answer_lines, round_lines, all_lines}
 use Rattle.unicorn_round.specs.Answered.{NamesAreWords}
-use Rattle.unicorn_round.proofs.Decimals.{both_true, all_digits-decimal}
+use Rattle.unicorn_round.proofs.Decimals.{all_digits-decimal}
 
 -- bytes of one line
 abbrev pub IsUnbroken : List ℕ → Type 0
@@ -62,7 +63,7 @@ unbroken-append xs ys a b = list_any-append (λ c. c == 10) xs ys ∙ ap (λ t. 
 unbroken_by : (test : ℕ → Bool) → test 10 ≡ false → (bytes : List ℕ) → list_all test bytes ≡ true → IsUnbroken bytes
 unbroken_by test lf [] all = refl
 unbroken_by test lf (c ∷ bytes) all =
-    let both : (test c ≡ true) × (list_all test bytes ≡ true) = both_true (test c) (list_all test bytes) all in
+    let both : (test c ≡ true) × (list_all test bytes ≡ true) = and_parts (test c) (list_all test bytes) all in
     by (c == 10) refl both.0 (unbroken_by test lf bytes both.1)
   where
     by : (b : Bool) → (c == 10) ≡ b → test c ≡ true → IsUnbroken bytes → (b || has_lf bytes) ≡ false
@@ -83,8 +84,8 @@ unbroken-word text word = unbroken_by is_word_byte refl text (by (nat_le 1 (leng
 unbroken_name : (types : List TypeDef) (number : ℕ) → list_all (λ (t : TypeDef). is_word t.name) types ≡ true
     → IsUnbroken (option_map_or (λ (t : TypeDef). t.name) (slice_get types number) [])
 unbroken_name [] number words = refl
-unbroken_name (t ∷ types) zero words = unbroken-word t.name (both_true (is_word t.name) (list_all (λ (x : TypeDef). is_word x.name) types) words).0
-unbroken_name (t ∷ types) (suc number) words = unbroken_name types number (both_true (is_word t.name) (list_all (λ (x : TypeDef). is_word x.name) types) words).1
+unbroken_name (t ∷ types) zero words = unbroken-word t.name (and_parts (is_word t.name) (list_all (λ (x : TypeDef). is_word x.name) types) words).0
+unbroken_name (t ∷ types) (suc number) words = unbroken_name types number (and_parts (is_word t.name) (list_all (λ (x : TypeDef). is_word x.name) types) words).1
 
 -- a hit is shown by the term's edge
 abbrev IsShownBy : TermQuery → ShownHit → Type 0

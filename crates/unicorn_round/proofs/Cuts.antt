@@ -1,4 +1,5 @@
 -- The hits of a term in rank order are the ranked entities that its edges lead to.
+use Rattle.std.proofs.lemmas.Bool.{and_parts}
 use Rattle.std.proofs.Common.{◌≡◌, ℕ, ◌==◌, ◌&&◌, ◌||◌, Bool, true, false, List, [], ◌∷◌, refl, sym, ◌∙◌, ap, subst, if◌then◌else◌, filter, take, arith}
 use Rattle.std.proofs.lemmas.Bool.Decides.{nat_tests}
 use Rattle.std.proofs.lemmas.Map.Views.{any-filter_same}
@@ -18,10 +19,6 @@ is_eq_then Less b = refl
 is_eq_then Equal b = refl
 is_eq_then Greater b = refl
 
-both_true : (a b : Bool) → (a && b) ≡ true → (a ≡ true) × (b ≡ true)
-both_true true b e = (refl, e)
-both_true false b e = cc
-
 same_number : (a b : ℕ) → is_eq (nat_cmp a b) ≡ true → a ≡ b
 same_number a b e = grind (arith, nat_tests)
 
@@ -34,7 +31,7 @@ eqb_self a = grind (arith, nat_tests)
 -- keys that rank order does not tell apart are the same
 same_key : (x y : DocKey) → is_eq (doc_cmp x y) ≡ true → x ≡ y
 same_key x y e =
-    let both = both_true (is_eq (nat_cmp y.rank.0 x.rank.0)) (is_eq (nat_cmp x.id y.id)) (sym (is_eq_then (nat_cmp y.rank.0 x.rank.0) (nat_cmp x.id y.id)) ∙ e) in
+    let both = and_parts (is_eq (nat_cmp y.rank.0 x.rank.0)) (is_eq (nat_cmp x.id y.id)) (sym (is_eq_then (nat_cmp y.rank.0 x.rank.0) (nat_cmp x.id y.id)) ∙ e) in
     let ranks : x.rank.0 ≡ y.rank.0 = sym (same_number y.rank.0 x.rank.0 both.0) in
     let ids : x.id ≡ y.id = same_number x.id y.id both.1 in
     λ i. record { rank = record { 0 = ranks i }; id = ids i }

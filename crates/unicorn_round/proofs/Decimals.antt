@@ -1,4 +1,5 @@
 -- The text of a number: digits alone, and that of no other number where one of them is below 2 ^ 64.
+use Rattle.std.proofs.lemmas.Bool.{and_parts}
 use Rattle.std.proofs.Common.{◌≡◌, ℕ, zero, suc, ◌+◌, ◌/◌, ◌%◌, ◌^◌, ◌<◌, ◌≤◌, ◌⊎◌, inl, inr, Bool, true, false, ◌&&◌, ◌==◌, if◌then◌else◌, List, [], ◌∷◌, ◌++◌, length, refl, sym, ◌∙◌, ap, arith}
 use Rattle.std.proofs.Math.Nat.{pow-suc}
 use Rattle.std.proofs.lemmas.Bool.Decides.{nat_tests}
@@ -7,10 +8,6 @@ use Rattle.std.specs.Fmt.{decimal, digits, digits_onto, digit_glyph}
 use Rattle.std.specs.List.{list_all}
 use Rattle.std.specs.Str.Parse.{digits_value}
 use Rattle.uni_base.specs.Words.{is_digit}
-
-pub both_true : (a b : Bool) → (a && b) ≡ true → (a ≡ true) × (b ≡ true)
-both_true true b e = (refl, e)
-both_true false b e = cc
 
 glyph-digit : (d : ℕ) → d < 10 → is_digit (digit_glyph false d) ≡ true
 glyph-digit d small = grind (arith, nat_tests)
@@ -66,14 +63,14 @@ pub digits_before_space : (xs ys rest others : List ℕ) → list_all is_digit x
 digits_before_space [] [] rest others a b e = refl
 digits_before_space [] (y ∷ ys) rest others a b e =
     let first : y ≡ 32 = cc in
-    let wrong : is_digit 32 ≡ true = ap is_digit (sym first) ∙ (both_true (is_digit y) (list_all is_digit ys) b).0 in
+    let wrong : is_digit 32 ≡ true = ap is_digit (sym first) ∙ (and_parts (is_digit y) (list_all is_digit ys) b).0 in
     absurd cc
 digits_before_space (x ∷ xs) [] rest others a b e =
     let first : x ≡ 32 = cc in
-    let wrong : is_digit 32 ≡ true = ap is_digit (sym first) ∙ (both_true (is_digit x) (list_all is_digit xs) a).0 in
+    let wrong : is_digit 32 ≡ true = ap is_digit (sym first) ∙ (and_parts (is_digit x) (list_all is_digit xs) a).0 in
     absurd cc
 digits_before_space (x ∷ xs) (y ∷ ys) rest others a b e =
     let first : x ≡ y = cc in
     let after : xs ++ 32 ∷ rest ≡ ys ++ 32 ∷ others = cc in
-    let same : xs ≡ ys = digits_before_space xs ys rest others (both_true (is_digit x) (list_all is_digit xs) a).1 (both_true (is_digit y) (list_all is_digit ys) b).1 after in
+    let same : xs ≡ ys = digits_before_space xs ys rest others (and_parts (is_digit x) (list_all is_digit xs) a).1 (and_parts (is_digit y) (list_all is_digit ys) b).1 after in
     cc

@@ -1,4 +1,5 @@
 -- Lines and pieces, one at a time.
+use Rattle.std.proofs.lemmas.Bool.{or_parts}
 use Rattle.std.proofs.Common.{◌≡◌, ℕ, ◌+◌, ◌<◌, ◌≤◌, ◌==◌, ◌||◌, Bool, true, false, List, [], ◌∷◌, ◌++◌, length, take, drop, Some, zero, suc, sym, ◌∙◌, ap, subst, refl, arith, append-nil, ◌⊎◌, inl, inr}
 use Rattle.std.specs.Prelude.{slice_get, if◌then◌else◌}
 use Rattle.std.proofs.lemmas.Option.{slice_get_within}
@@ -6,25 +7,21 @@ use Rattle.std.proofs.lemmas.List.{append_assoc, take_all, drop_all, length-drop
 use Rattle.unicorn_round.specs.Lines.{lines_of, whole_lines, onto_first, onto_whole, lines_so_far, has_lf}
 use Rattle.unicorn_round.specs.Reading.{LineState, IsFront}
 
-or_false : (a b : Bool) → (a || b) ≡ false → (a ≡ false) × (b ≡ false)
-or_false false b e = (refl, e)
-or_false true b e = cc
-
 -- a line that its LF ends
 pub lines_of-line : (line rest : List ℕ) → has_lf line ≡ false → lines_of (line ++ 10 ∷ rest) ≡ line ∷ lines_of rest
 lines_of-line [] rest unbroken = refl
 lines_of-line (b ∷ line) rest unbroken =
-    let parts = or_false (b == 10) (has_lf line) unbroken in
+    let parts = or_parts (b == 10) (has_lf line) unbroken in
     rw (parts.0, lines_of-line line rest parts.1) refl
 
 -- a last line without LF
 pub lines_of-last : (bytes : List ℕ) → has_lf bytes ≡ false → 0 < length bytes → lines_of bytes ≡ bytes ∷ []
 lines_of-last [] line some = absurd (omega arith)
 lines_of-last (b ∷ []) line some =
-    let parts = or_false (b == 10) false line in
+    let parts = or_parts (b == 10) false line in
     rw parts.0 refl
 lines_of-last (b ∷ c ∷ bytes) line some =
-    let parts = or_false (b == 10) (has_lf (c ∷ bytes)) line in
+    let parts = or_parts (b == 10) (has_lf (c ∷ bytes)) line in
     rw (parts.0, lines_of-last (c ∷ bytes) parts.1 (omega arith)) refl
 
 -- a line and its LF
@@ -67,7 +64,7 @@ length-front state len front = by front.ends
 pub whole_lines-unbroken : (bytes : List ℕ) → has_lf bytes ≡ false → whole_lines bytes ≡ []
 whole_lines-unbroken [] unbroken = refl
 whole_lines-unbroken (b ∷ bytes) unbroken =
-    let parts = or_false (b == 10) (has_lf bytes) unbroken in
+    let parts = or_parts (b == 10) (has_lf bytes) unbroken in
     rw (parts.0, whole_lines-unbroken bytes parts.1) refl
 
 -- with an LF at the end, the lines are the whole ones and one more

@@ -1,4 +1,5 @@
 -- Rounds, line by line.
+use Rattle.std.proofs.lemmas.Bool.{or_parts}
 use Rattle.std.proofs.Common.{◌≡◌, ℕ, ◌+◌, ◌≤◌, ◌||◌, Bool, true, false, List, [], ◌∷◌, ◌++◌, length, sym, ◌∙◌, ap, refl, arith, append-nil, length-append}
 use Rattle.std.specs.Prelude.{if◌then◌else◌, count_by}
 use Rattle.std.specs.List.{list_any}
@@ -13,10 +14,6 @@ use Rattle.unicorn_round.specs.Items.{counted_item, is_go, is_skipped, line_of}
 use Rattle.unicorn_round.specs.LineItems.{is_end}
 use Rattle.unicorn_round.specs.RoundAnswers.{item_in, items_from}
 use Rattle.unicorn_round.specs.Rounds.{counted_after, in_front, rounds_from}
-
-pub or_false : (a b : Bool) → (a || b) ≡ false → (a ≡ false) × (b ≡ false)
-or_false false b e = (refl, e)
-or_false true b e = cc
 
 -- the end of a round is all that is in front of the others
 in_front-end : (what : RoundLine) (rounds : List (List AnItem)) → is_end what ≡ true → in_front what rounds ≡ [] ∷ rounds
@@ -74,7 +71,7 @@ module _ (limits : Limits) (schema : Declarations) where
       ∙ ap (λ n. [] ∷ rounds_from limits schema (number + 1) n rest) (counted_after-end before (line_of limits schema number before line) ends)
       ∙ ap (λ n. [] ∷ rounds_from limits schema n 0 rest) same
   rounds_from-go number before (first ∷ seen) rest line clear goes =
-      let parts = or_false (is_go first) (list_any is_go seen) clear in
+      let parts = or_parts (is_go first) (list_any is_go seen) clear in
       let what : RoundLine = line_of limits schema number before first in
       let same : number + 1 + length seen + 1 ≡ number + length (first ∷ seen) + 1 = omega arith in
       ap (in_front what) (rounds_from-go (number + 1) (counted_after before what) seen rest line parts.1 goes)
@@ -85,10 +82,10 @@ module _ (limits : Limits) (schema : Declarations) where
   pub rounds_from-last : (number before : ℕ) (first : List ℕ) (seen : List (List ℕ)) → list_any is_go (first ∷ seen) ≡ false
       → rounds_from limits schema number before (first ∷ seen) ≡ items_from limits schema number before (first ∷ seen) ∷ []
   rounds_from-last number before first [] clear =
-      let parts = or_false (is_go first) false clear in
+      let parts = or_parts (is_go first) false clear in
       in_front-none (line_of limits schema number before first) (is_end-line_of number before first ∙ parts.0)
   rounds_from-last number before first (second ∷ seen) clear =
-      let parts = or_false (is_go first) (list_any is_go (second ∷ seen)) clear in
+      let parts = or_parts (is_go first) (list_any is_go (second ∷ seen)) clear in
       let what : RoundLine = line_of limits schema number before first in
       ap (in_front what) (rounds_from-last (number + 1) (counted_after before what) second seen parts.1)
       ∙ in_front-first what _ _ (is_end-line_of number before first ∙ parts.0)
@@ -110,7 +107,7 @@ module _ (limits : Limits) (schema : Declarations) where
       ∙ ap (λ n. item_in (line_of limits schema n before line)) number_is
       ∙ ap (λ n. item_in (line_of limits schema (number + 0) n line)) before_is
   items_from-append number before (first ∷ seen) line clear =
-      let parts = or_false (is_go first) (list_any is_go seen) clear in
+      let parts = or_parts (is_go first) (list_any is_go seen) clear in
       let what : RoundLine = line_of limits schema number before first in
       let later : ℕ = counted_after before what in
       let items : List AnItem = items_from limits schema (number + 1) later seen in
@@ -126,11 +123,11 @@ module _ (limits : Limits) (schema : Declarations) where
 pub count_by-clear : (seen : List (List ℕ)) → list_any is_go seen ≡ false → count_by is_go seen ≡ 0
 count_by-clear [] clear = refl
 count_by-clear (line ∷ seen) clear =
-    let parts = or_false (is_go line) (list_any is_go seen) clear in
+    let parts = or_parts (is_go line) (list_any is_go seen) clear in
     rw parts.0 (count_by-clear seen parts.1)
 
 pub clear_more : (lines : List (List ℕ)) (line : List ℕ) → list_any is_go lines ≡ false → is_go line ≡ false → list_any is_go (lines ++ line ∷ []) ≡ false
 clear_more [] line so here = rw here refl
 clear_more (first ∷ lines) line so here =
-    let parts = or_false (is_go first) (list_any is_go lines) so in
+    let parts = or_parts (is_go first) (list_any is_go lines) so in
     rw (parts.0, clear_more lines line parts.1 here) refl
