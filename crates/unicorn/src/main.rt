@@ -9,7 +9,7 @@ use std::io::ErrorKind;
 use std::process::ExitCode;
 use std::{env, io};
 use uni_base::{StdSink, StdSource};
-use unicorn_round::{OpenGate, Status, TurnChooser, run};
+use first_round::{OpenGate, Status, TurnChooser, run};
 
 fn main(rt: HostRuntime) -> ExitCode {
     let status = match words_given(rt.alloc(), read_words(&rt)) {
