@@ -1,14 +1,15 @@
 -- The keys of several lists, and lists without a key.
-use Rattle.std.proofs.Common.{◌≡◌, Bool, true, false, not, ◌&&◌, ◌||◌, List, [], ◌∷◌, refl, sym, ◌∙◌, ap, subst, filter, map}
+use Rattle.std.proofs.Common.{◌≡◌, length, Bool, true, false, not, ◌&&◌, ◌||◌, List, [], ◌∷◌, refl, sym, ◌∙◌, ap, subst, filter, map}
 use Rattle.std.specs.declared.cmp.Ordering.{Ordering}
 use Rattle.std.specs.declared.cmp.Ordering.TheVariants.{Less, Equal, Greater}
 use Rattle.std.specs.Ordering.{is_eq, ordering_reverse, match_ordering}
 use Rattle.std.specs.List.{list_any}
+use Rattle.std.proofs.lemmas.List.{length-map}
 use Rattle.std.proofs.lemmas.List.Elements.{All-nil, All-weaker}
 use Rattle.uni_base.specs.declared.entity.DocKey.{DocKey}
 use Rattle.uni_base.specs.RankOrder.{doc_cmp}
 use Rattle.uni_base.specs.Cursors.{is_less, is_before, IsRanked}
-use Rattle.uni_base.specs.KeySets.{has_key, add_key, add_keys, united}
+use Rattle.uni_base.specs.KeySets.{has_key, add_key, add_keys, united, without, holders, KeepsKeys}
 use Rattle.uni_base.proofs.RankedLemmas.{doc_total, exact_key, Standing, before, same, after, standing, is_before_trans, is_before_self, IsBeforeAll, IsBeforeAll-cons, IsBeforeAll-head, IsBeforeAll-tail, IsRanked-filter, filter_all, and_false, and_true, or_assoc, or_swap, or_self, has_key-filter, has_key-tail, same_from_keys}
 
 pub has_key-add_key : (a : DocKey) (ks : List DocKey) (k : DocKey) → has_key (add_key a ks) k ≡ (is_eq (doc_cmp a k) || has_key ks k)
@@ -90,9 +91,25 @@ united-filter p lists =
       ∙ ap (λ b. b && p k) (sym (has_key-united lists k))
       ∙ sym (has_key-filter p (united lists) k))
 
--- the keys of a list but one
-abbrev pub without : DocKey → List DocKey → List DocKey
-without k keys = filter (λ x. not (is_eq (doc_cmp k x))) keys
+-- what a filter leaves of lists keeps the keys that it leaves
+pub KeepsKeys-filter : (p : DocKey → Bool) (lists : List (List DocKey)) → KeepsKeys (united (map (filter p) lists)) lists (map (filter p) lists)
+KeepsKeys-filter p lists = record { count = length-map lists (filter p); holders_stay = λ k has. stay k (passes k has) lists }
+  where
+    right_true : (a b : Bool) → (a && b) ≡ true → b ≡ true
+    right_true true b e = e
+    right_true false b e = cc
+
+    passes : (k : DocKey) → has_key (united (map (filter p) lists)) k ≡ true → p k ≡ true
+    passes k has = right_true (has_key (united lists) k) (p k) (sym (ap (λ (ks : List DocKey). has_key ks k) (united-filter p lists) ∙ has_key-filter p (united lists) k) ∙ has)
+
+    cons_same : (a b : Bool) (xs ys : List Bool) → a ≡ b → xs ≡ ys → a ∷ xs ≡ b ∷ ys
+    cons_same a b xs ys e f = cc
+
+    stay : (k : DocKey) → p k ≡ true → (lists : List (List DocKey)) → holders k (map (filter p) lists) ≡ holders k lists
+    stay k pass [] = refl
+    stay k pass (ks ∷ lists) =
+        cons_same (has_key (filter p ks) k) (has_key ks k) (holders k (map (filter p) lists)) (holders k lists)
+        (has_key-filter p ks k ∙ ap (λ b. has_key ks k && b) pass ∙ and_true (has_key ks k)) (stay k pass lists)
 
 -- passing the head of a ranked list
 pub without-head : (k : DocKey) (ks : List DocKey) → IsRanked (k ∷ ks) → without k (k ∷ ks) ≡ ks
