@@ -89,21 +89,25 @@ is_first-has_key k (x ∷ xs) ranked least = by (standing k x)
     by (same e) = let f = is_eq_same x k (sym e) in f ∙ sym (ap (λ b. b || has_key xs k) f)
     by (after p _ _ _) = absurd (let f = least x (ap (λ b. b || has_key xs x) (is_eq_self x)) in cc)
 
--- a list among others has nothing before the first of all keys
-pub least_in : (k : DocKey) (lists : List (List DocKey)) (i : ℕ) → slice_get (united lists) 0 ≡ Some k → (x : DocKey) → has_key (get_or lists i []) x ≡ true → is_before x k ≡ false
-least_in k lists i first x has = by (united lists) refl (IsRanked-united lists) first
+-- what one of several lists has is among their keys
+pub has_key-among : (lists : List (List DocKey)) (i : ℕ) (x : DocKey) → has_key (get_or lists i []) x ≡ true → has_key (united lists) x ≡ true
+has_key-among lists i x has = has_key-united lists x ∙ among lists i has
   where
     among : (lists : List (List DocKey)) (i : ℕ) → has_key (get_or lists i []) x ≡ true → list_any (λ ks. has_key ks x) lists ≡ true
     among [] i h = h
     among (ks ∷ lists) zero h = ap (λ b. b || list_any (λ ls. has_key ls x) lists) h
     among (ks ∷ lists) (suc i) h = ap (λ b. has_key ks x || b) (among lists i h) ∙ or_true (has_key ks x)
 
+-- a list among others has nothing before the first of all keys
+pub least_in : (k : DocKey) (lists : List (List DocKey)) (i : ℕ) → slice_get (united lists) 0 ≡ Some k → (x : DocKey) → has_key (get_or lists i []) x ≡ true → is_before x k ≡ false
+least_in k lists i first x has = by (united lists) refl (IsRanked-united lists) first
+  where
     by : (ks : List DocKey) → united lists ≡ ks → IsRanked ks → slice_get (united lists) 0 ≡ Some k → is_before x k ≡ false
     by [] e ranked f = absurd (let g : slice_get [] 0 ≡ Some k = subst (λ (ls : List DocKey). slice_get ls 0 ≡ Some k) e f in cc)
     by (y ∷ ys) e ranked f =
         let g : slice_get (y ∷ ys) 0 ≡ Some k = subst (λ (ls : List DocKey). slice_get ls 0 ≡ Some k) e f in
         let is : y ≡ k = cc in
-        let here : has_key (y ∷ ys) x ≡ true = ap (λ (ls : List DocKey). has_key ls x) (sym e) ∙ has_key-united lists x ∙ among lists i has in
+        let here : has_key (y ∷ ys) x ≡ true = ap (λ (ls : List DocKey). has_key ls x) (sym e) ∙ has_key-among lists i x has in
         subst (λ (z : DocKey). is_before x z ≡ false) is (has_key-not_before y ys x ranked here)
 
 -- where an operand is at the first of all keys, or not

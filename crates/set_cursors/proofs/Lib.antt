@@ -1,3 +1,6 @@
+mod Asked
+mod Commons
 mod Filtered
 mod FirstKeys
 mod Moved
+mod Shared

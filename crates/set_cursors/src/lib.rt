@@ -2,7 +2,10 @@
 //! that one has and another lacks.
 #![tactic(auto)]
 
+mod and;
+mod leap;
 mod operands;
 mod or;
 
+pub use and::AndCursor;
 pub use or::OrCursor;

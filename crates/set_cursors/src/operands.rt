@@ -1,8 +1,7 @@
-ghost use Rattle.std.specs.Prelude.{◌≡◌, false, map, slice_get, true, Some};
-ghost use Rattle.set_cursors.specs.Firsts.{is_first, sooner_of};
-ghost use Rattle.uni_base.specs.Cursors.{is_before, keys_from, IsRanked};
-ghost use Rattle.uni_base.specs.KeySets.{has_key, united, without};
-ghost use Rattle.uni_base.specs.declared.entity.DocKey.{DocKey as Keys};
+ghost use Rattle.std.specs.Prelude.{◌≡◌, ℕ, [], map, slice_get, slice_index_or};
+ghost use Rattle.set_cursors.specs.Firsts.{is_first, sooner_of, HasNoneBefore};
+ghost use Rattle.uni_base.specs.Cursors.{keys_from, IsRanked};
+ghost use Rattle.uni_base.specs.KeySets.{united, without};
 
 use uni_base::{DocCursor, DocKey};
 
@@ -40,7 +39,7 @@ pub(crate) fn is_at<C: DocCursor>(operand: &C, key: DocKey) -> bool
 
 // Passes a key, if the operand has it, where the operand has none before it.
 fn pass<C: DocCursor>(operand: &mut C, key: DocKey)
-    requires { (k : Keys) → has_key (C.remaining operand.old) k ≡ true → is_before k key ≡ false }
+    requires { HasNoneBefore key (C.remaining operand.old) }
     ensures { C.remaining operand.new ≡ without key (C.remaining operand.old) }
 {
     if is_at(operand, key) {
@@ -48,9 +47,9 @@ fn pass<C: DocCursor>(operand: &mut C, key: DocKey)
     }
 }
 
-// Passes the first key of all operands in those that have it.
+// Passes a key in the operands that have it, where none has one before it.
 pub(crate) fn pass_all<C: DocCursor>(operands: &mut Vec<C>, key: &DocKey)
-    requires { slice_get (united (map C.remaining operands.old.items)) 0 ≡ Some key.now }
+    requires { (i : ℕ) → HasNoneBefore key.now (slice_index_or (map C.remaining operands.old.items) i []) }
     ensures { map C.remaining operands.new.items ≡ map (without key.now) (map C.remaining operands.old.items) }
 {
     for i in 0..operands.len() {

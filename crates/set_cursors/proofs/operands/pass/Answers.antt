@@ -7,4 +7,4 @@ returns-then-is_at g c = c.step.ensures ∙ without-first c.args.key (g.C.DocCur
 
 pub returns-else-is_at : goal.returns-else-is_at
 returns-else-is_at g c =
-    without-other c.args.key (g.C.DocCursor.remaining c.args.operand.now) c.is_at.ensures.ranked c.requires (sym c.is_at.ensures.value ∙ c.if-is_at.false)
+    without-other c.args.key (g.C.DocCursor.remaining c.args.operand.now) c.is_at.ensures.ranked (c.requires c.is_at.ensures.ranked) (sym c.is_at.ensures.value ∙ c.if-is_at.false)

@@ -1,7 +1,6 @@
-use Rattle.std.proofs.Common.{◌≡◌, List, [], true, ◌∙◌, ap, sym, map, arith}
-use Rattle.uni_base.specs.declared.entity.DocKey.{DocKey}
-use Rattle.uni_base.specs.KeySets.{has_key, without}
-use Rattle.set_cursors.proofs.FirstKeys.{least_in}
+use Rattle.std.proofs.Common.{[], subst, sym, arith}
+use Rattle.uni_base.specs.KeySets.{without}
+use Rattle.set_cursors.specs.Firsts.{HasNoneBefore}
 use Rattle.set_cursors.proofs.Moved.{at_old, moved_more}
 use Rattle.set_cursors.proofs.operands.pass_all.Goals as goal
 
@@ -10,7 +9,7 @@ pass-requires g c =
     let view = g.C.DocCursor.remaining in
     let at = at_old view (without c.args.key.now) c.args.operands.now.items c.loop-i.operands.items c.loop-i.i c.index_mut.result.now
         (omega (arith, c.args.operands.now.ok.0)) c.loop-i.invariant c.index_mut.ensures.value [] in
-    λ k has. least_in c.args.key.now (map view c.args.operands.now.items) c.loop-i.i c.requires k (ap (λ (ks : List DocKey). has_key ks k) (sym at) ∙ has)
+    subst (HasNoneBefore c.args.key.now) (sym at) (c.requires c.loop-i.i)
 
 pub loop-i-preserved : goal.loop-i-preserved
 loop-i-preserved g c =
