@@ -1,5 +1,6 @@
 mod Asked
 mod Commons
+mod Differences
 mod Filtered
 mod FirstKeys
 mod Moved

@@ -3,9 +3,11 @@
 #![tactic(auto)]
 
 mod and;
+mod difference;
 mod leap;
 mod operands;
 mod or;
 
 pub use and::AndCursor;
+pub use difference::DifferenceCursor;
 pub use or::OrCursor;
