@@ -2,15 +2,15 @@
 use Rattle.std.proofs.Common.{◌≡◌, ℕ, zero, suc, ◌+◌, ◌<◌, ◌≤◌, Bool, true, false, not, ◌&&◌, ◌||◌, List, [], ◌∷◌, ◌++◌, Option, None, Some, refl, sym, ◌∙◌, ap, subst, arith, length, get_or, set, slice_get, take, drop, map}
 use Rattle.std.proofs.lemmas.List.{append-nil, drop_all, get_or-map, get_or-set_same, length-map, length-set, map_more}
 use Rattle.std.proofs.lemmas.List.Folds.{list_all-append, list_all_at}
-use Rattle.std.specs.List.{list_any, list_all}
+use Rattle.std.specs.List.{list_all}
 use Rattle.std.specs.declared.cmp.Ordering.{Ordering}
 use Rattle.std.specs.declared.cmp.Ordering.TheVariants.{Less, Equal, Greater}
 use Rattle.std.specs.Ordering.{is_eq, is_ne}
 use Rattle.uni_base.specs.declared.entity.DocKey.{DocKey}
 use Rattle.uni_base.specs.RankOrder.{doc_cmp}
 use Rattle.uni_base.specs.Cursors.{is_before, IsRanked, keys_from}
-use Rattle.uni_base.specs.KeySets.{has_key, holders, united}
-use Rattle.uni_base.proofs.RankedLemmas.{and_true, has_key-keys_from, has_key-not_before, is_before_self, is_eq_self, is_eq_same, keys_from_head_is, same_from_is_eq}
+use Rattle.uni_base.specs.KeySets.{has_key, holders}
+use Rattle.uni_base.proofs.RankedLemmas.{and_true, has_key-keys_from, has_key-not_before, is_before_self, is_eq_self, keys_from_head_is}
 use Rattle.set_cursors.specs.Firsts.{is_first}
 use Rattle.set_cursors.specs.Leaps.{IsReached, IsAsked}
 use Rattle.set_cursors.proofs.FirstKeys.{has_key-among}
@@ -163,8 +163,8 @@ module _ {C : Type 0} (view : C → List DocKey) (key : DocKey) (ops nows : List
     step_there at e here there =
         let lists = map view ops in
         let last : is_first key (keys_from key (get_or lists i [])) ≡ true =
-            ap (λ (ks : List DocKey). is_first key (keys_from key ks)) (sym (at_old view (keys_from key) ops nows i old within before is []))
-            ∙ ap (is_first key) (sym moves ∙ some_first (view new) at e) ∙ here in
+        ap (λ (ks : List DocKey). is_first key (keys_from key ks)) (sym (at_old view (keys_from key) ops nows i old within before is []))
+        ∙ ap (is_first key) (sym moves ∙ some_first (view new) at e) ∙ here in
         ap (list_all (is_first key)) (map_more (keys_from key) lists i [] step_within)
         ∙ list_all-append (is_first key) (map (keys_from key) (take i lists)) (keys_from key (get_or lists i []) ∷ [])
         ∙ ap (λ b. b && (is_first key (keys_from key (get_or lists i [])) && true)) there ∙ ap (λ b. b && true) last

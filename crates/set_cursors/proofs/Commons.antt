@@ -1,5 +1,5 @@
 -- Common keys of operands that have passed some.
-use Rattle.std.proofs.Common.{◌≡◌, ℕ, zero, suc, Bool, true, false, not, ◌&&◌, List, [], ◌∷◌, Option, None, Some, refl, sym, ◌∙◌, ap, subst, drop, filter, get_or, map, slice_get, length, arith}
+use Rattle.std.proofs.Common.{◌≡◌, ℕ, zero, suc, Bool, true, false, not, ◌&&◌, List, [], ◌∷◌, Some, refl, sym, ◌∙◌, ap, subst, drop, filter, get_or, map, slice_get}
 use Rattle.std.specs.List.{list_all}
 use Rattle.std.specs.Ordering.{is_eq}
 use Rattle.uni_base.specs.declared.entity.DocKey.{DocKey}
@@ -10,18 +10,17 @@ use Rattle.uni_base.proofs.RankedLemmas.{and_false, and_true, has_key-filter, ha
 use Rattle.uni_base.proofs.UnitedLemmas.{KeepsKeys-filter, united-filter, without-head}
 use Rattle.set_cursors.specs.Filters.{common}
 use Rattle.set_cursors.specs.Firsts.{is_first, HasNoneBefore}
-use Rattle.set_cursors.specs.Leaps.{StandsAt}
-use Rattle.set_cursors.proofs.Shared.{all_have, common_all, has_key-common, has_key-common-united, IsRanked-common}
+use Rattle.set_cursors.proofs.Shared.{all_have, has_key-common, has_key-common-united, IsRanked-common}
 
 -- the same filter of each list
 common-filter : (p : DocKey → Bool) (lists : List (List DocKey)) → common (map (filter p) lists) ≡ filter p (common lists)
 common-filter p lists =
     same_from_keys (common (map (filter p) lists)) (filter p (common lists)) (IsRanked-common (map (filter p) lists)) (IsRanked-filter p (common lists) (IsRanked-common lists))
     (λ k. has_key-common (map (filter p) lists) k
-      ∙ ap (λ b. b && all_have k (map (filter p) lists)) (ap (λ (ks : List DocKey). has_key ks k) (united-filter p lists) ∙ has_key-filter p (united lists) k)
-      ∙ by k (p k) refl
-      ∙ ap (λ b. b && p k) (sym (has_key-common lists k))
-      ∙ sym (has_key-filter p (common lists) k))
+    ∙ ap (λ b. b && all_have k (map (filter p) lists)) (ap (λ (ks : List DocKey). has_key ks k) (united-filter p lists) ∙ has_key-filter p (united lists) k)
+    ∙ by k (p k) refl
+    ∙ ap (λ b. b && p k) (sym (has_key-common lists k))
+    ∙ sym (has_key-filter p (common lists) k))
   where
     passes : (k : DocKey) → p k ≡ true → (lists : List (List DocKey)) → all_have k (map (filter p) lists) ≡ all_have k lists
     passes k e [] = refl

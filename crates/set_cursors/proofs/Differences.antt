@@ -1,5 +1,5 @@
 -- Keys that one list has and another lacks.
-use Rattle.std.proofs.Common.{◌≡◌, ℕ, zero, suc, ◌+◌, ◌<◌, Bool, true, false, not, ◌&&◌, ◌||◌, cond, List, [], ◌∷◌, Option, None, Some, refl, sym, ◌∙◌, ap, subst, arith, drop, filter, get_or, length, slice_get}
+use Rattle.std.proofs.Common.{◌≡◌, ℕ, Bool, true, false, not, ◌&&◌, ◌||◌, cond, List, [], ◌∷◌, Option, Some, refl, sym, ◌∙◌, ap, subst, drop, get_or, slice_get}
 use Rattle.std.specs.Ordering.{is_eq}
 use Rattle.std.specs.Bool.{OnTrue}
 use Rattle.std.specs.Option.{is_some}
@@ -7,7 +7,7 @@ use Rattle.uni_base.specs.declared.entity.DocKey.{DocKey}
 use Rattle.uni_base.specs.RankOrder.{doc_cmp}
 use Rattle.uni_base.specs.Cursors.{is_before, IsRanked, keys_from}
 use Rattle.uni_base.specs.KeySets.{has_first, has_key, holders, KeepsKeys}
-use Rattle.uni_base.proofs.RankedLemmas.{and_true, filter_swap, has_key-filter, has_key-keys_from, has_key-not_before, is_before_self, is_eq_self, IsRanked-filter, IsRanked-keys_from, keys_from-filter, same_from_keys}
+use Rattle.uni_base.proofs.RankedLemmas.{and_true, has_key-filter, has_key-keys_from, has_key-not_before, is_before_self, is_eq_self, IsRanked-filter, keys_from-filter, same_from_keys}
 use Rattle.set_cursors.specs.Differences.{IsClear}
 use Rattle.set_cursors.specs.Filters.{difference}
 use Rattle.set_cursors.specs.Firsts.{is_first}

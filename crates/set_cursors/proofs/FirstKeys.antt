@@ -1,5 +1,5 @@
 -- The first key of lists that are put together.
-use Rattle.std.proofs.Common.{◌≡◌, ℕ, zero, suc, get_or, drop, Bool, true, false, ◌||◌, List, [], ◌∷◌, ◌++◌, Option, None, Some, refl, sym, ◌∙◌, ap, subst, cond, map, slice_get}
+use Rattle.std.proofs.Common.{◌≡◌, ℕ, zero, suc, get_or, drop, Bool, true, false, ◌||◌, List, [], ◌∷◌, ◌++◌, Some, refl, sym, ◌∙◌, ap, subst, cond, slice_get}
 use Rattle.std.specs.List.{list_any}
 use Rattle.std.specs.Ordering.{is_eq}
 use Rattle.uni_base.specs.declared.entity.DocKey.{DocKey}
@@ -60,7 +60,7 @@ pub first_more : (lists : List (List DocKey)) (ks : List DocKey) → IsRanked ks
 first_more lists ks ranked =
     first_of_both (united lists) ks (united (lists ++ ks ∷ [])) (IsRanked-united lists) ranked (IsRanked-united (lists ++ ks ∷ []))
     (λ k. has_key-united (lists ++ ks ∷ []) k ∙ list_any-append (λ xs. has_key xs k) lists (ks ∷ []) ∙ ap (λ b. list_any (λ xs. has_key xs k) lists || b) (or_false (has_key ks k))
-      ∙ ap (λ b. b || has_key ks k) (sym (has_key-united lists k)))
+    ∙ ap (λ b. b || has_key ks k) (sym (has_key-united lists k)))
 
 -- passing a key that a list begins with, and that it has nothing before
 pub without-first : (k : DocKey) (ks : List DocKey) → IsRanked ks → is_first k ks ≡ true → drop 1 ks ≡ without k ks

@@ -1,5 +1,5 @@
 -- Loops that move one operand after the other.
-use Rattle.std.proofs.Common.{◌≡◌, ℕ, zero, suc, ◌+◌, ◌<◌, List, [], ◌∷◌, ◌++◌, refl, sym, ◌∙◌, ap, subst, arith, length, get_or, take, drop, set, map}
+use Rattle.std.proofs.Common.{◌≡◌, ℕ, zero, suc, ◌+◌, ◌<◌, List, [], ◌∷◌, ◌++◌, refl, sym, ◌∙◌, ap, arith, length, get_or, take, drop, set, map}
 use Rattle.std.proofs.lemmas.List.{get_or-map, length-map, map-set}
 use Rattle.std.proofs.lemmas.List.Edits.{map_over_more}
 
@@ -24,14 +24,14 @@ module _ {C X : Type 0} (view : C → X) (f : X → X) (olds nows : List C) (i :
   -- the operand that the loop is at
   pub at_old : (d : X) → view old ≡ get_or (map view olds) i d
   at_old d =
-    let same = as_many_by in
-    ap view is ∙ sym (get_or-map view nows i old d (omega arith)) ∙ ap (λ (ys : List X). get_or ys i d) before ∙ untouched f (map view olds) i d
+      let same = as_many_by in
+      ap view is ∙ sym (get_or-map view nows i old d (omega arith)) ∙ ap (λ (ys : List X). get_or ys i d) before ∙ untouched f (map view olds) i d
 
   -- once it is moved
   pub moved_more : (new : C) → view new ≡ f (view old) → map view (set nows i new) ≡ map f (take (i + 1) (map view olds)) ++ drop (i + 1) (map view olds)
   moved_more new moves =
-    let same = as_many_by in
-    map-set view nows i new
-    ∙ ap (λ (x : X). set (map view nows) i x) moves
-    ∙ map_over_more f (map view olds) (map view nows) i (view old) (omega (arith, length-map olds view)) before
+      let same = as_many_by in
+      map-set view nows i new
+      ∙ ap (λ (x : X). set (map view nows) i x) moves
+      ∙ map_over_more f (map view olds) (map view nows) i (view old) (omega (arith, length-map olds view)) before
       (ap view is ∙ sym (get_or-map view nows i old (view old) (omega arith)))

@@ -1,12 +1,12 @@
 -- Operands of which some have passed keys that not all have.
-use Rattle.std.proofs.Common.{◌≡◌, ℕ, suc, ◌+◌, ◌<◌, ◌≤◌, Bool, true, false, not, ◌&&◌, ◌||◌, cond, List, [], ◌∷◌, Option, None, Some, refl, sym, ◌∙◌, ap, subst, arith, length, get_or, slice_get, drop, filter, map}
+use Rattle.std.proofs.Common.{◌≡◌, ◌<◌, ◌≤◌, Bool, true, false, not, ◌&&◌, ◌||◌, cond, List, [], ◌∷◌, Option, None, Some, refl, sym, ◌∙◌, ap, subst, arith, length, get_or, slice_get, drop, map}
 use Rattle.std.specs.List.{list_any, list_all}
 use Rattle.std.specs.Ordering.{is_eq}
 use Rattle.uni_base.specs.declared.entity.DocKey.{DocKey}
 use Rattle.uni_base.specs.RankOrder.{doc_cmp}
 use Rattle.uni_base.specs.Cursors.{is_before, IsRanked, keys_from}
 use Rattle.uni_base.specs.KeySets.{has_key, holders, united, KeepsKeys}
-use Rattle.uni_base.proofs.RankedLemmas.{and_false, and_true, has_key-filter, has_key-keys_from, has_key-not_before, is_before_back, is_before_self, is_before_trans_right, is_eq_same, is_eq_self, IsRanked-filter, IsRanked-keys_from, least_is_head, same_from_is_eq, same_from_keys, Standing, before, same, after, standing}
+use Rattle.uni_base.proofs.RankedLemmas.{and_false, has_key-filter, has_key-keys_from, has_key-not_before, is_before_self, is_before_trans_right, is_eq_same, is_eq_self, IsRanked-filter, IsRanked-keys_from, least_is_head, same_from_is_eq, same_from_keys, Standing, before, same, after, standing}
 use Rattle.uni_base.proofs.UnitedLemmas.{has_key-united, IsRanked-united}
 use Rattle.set_cursors.specs.Filters.{common}
 use Rattle.set_cursors.specs.Firsts.{is_first}

@@ -75,7 +75,7 @@ impl<C: DocCursor> DifferenceCursor<C> {
             result ≡ has_first (slice_index_or lists i []) (difference (C.remaining self.now.0) (C.remaining self.now.1)) }
         ensures current { let lists = C.remaining self.now.0 ∷ C.remaining self.now.1 ∷ [] in
             OnTrue result (slice_get (slice_index_or lists i []) 0
-                ≡ slice_get (difference (C.remaining self.now.0) (C.remaining self.now.1)) 0) }
+            ≡ slice_get (difference (C.remaining self.now.0) (C.remaining self.now.1)) 0) }
     {
         i == 0 && self.first.peek().is_some()
     }

@@ -1,5 +1,5 @@
 -- The keys of several lists, and lists without a key.
-use Rattle.std.proofs.Common.{◌≡◌, length, Bool, true, false, not, ◌&&◌, ◌||◌, List, [], ◌∷◌, refl, sym, ◌∙◌, ap, subst, filter, map}
+use Rattle.std.proofs.Common.{◌≡◌, Bool, true, false, not, ◌&&◌, ◌||◌, List, [], ◌∷◌, refl, sym, ◌∙◌, ap, subst, filter, map}
 use Rattle.std.specs.declared.cmp.Ordering.{Ordering}
 use Rattle.std.specs.declared.cmp.Ordering.TheVariants.{Less, Equal, Greater}
 use Rattle.std.specs.Ordering.{is_eq, ordering_reverse, match_ordering}
@@ -85,11 +85,11 @@ pub united-filter : (p : DocKey → Bool) (lists : List (List DocKey)) → unite
 united-filter p lists =
     same_from_keys (united (map (filter p) lists)) (filter p (united lists)) (IsRanked-united (map (filter p) lists)) (IsRanked-filter p (united lists) (IsRanked-united lists))
     (λ k. has_key-united (map (filter p) lists) k
-      ∙ list_any-map (λ ks. has_key ks k) (filter p) lists
-      ∙ list_any-agree (λ ks. has_key (filter p ks) k) (λ ks. has_key ks k && p k) (λ ks. has_key-filter p ks k) lists
-      ∙ list_any-and (λ ks. has_key ks k) (p k) lists
-      ∙ ap (λ b. b && p k) (sym (has_key-united lists k))
-      ∙ sym (has_key-filter p (united lists) k))
+    ∙ list_any-map (λ ks. has_key ks k) (filter p) lists
+    ∙ list_any-agree (λ ks. has_key (filter p ks) k) (λ ks. has_key ks k && p k) (λ ks. has_key-filter p ks k) lists
+    ∙ list_any-and (λ ks. has_key ks k) (p k) lists
+    ∙ ap (λ b. b && p k) (sym (has_key-united lists k))
+    ∙ sym (has_key-filter p (united lists) k))
 
 -- what a filter leaves of lists keeps the keys that it leaves
 pub KeepsKeys-filter : (p : DocKey → Bool) (lists : List (List DocKey)) → KeepsKeys (united (map (filter p) lists)) lists (map (filter p) lists)

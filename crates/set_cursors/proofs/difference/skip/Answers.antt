@@ -1,4 +1,4 @@
-use Rattle.std.proofs.Common.{◌≡◌, [], ◌∷◌, List, ◌∙◌, sym, subst}
+use Rattle.std.proofs.Common.{◌≡◌, List, ◌∙◌, sym, subst}
 use Rattle.uni_base.specs.declared.entity.DocKey.{DocKey}
 use Rattle.uni_base.specs.KeySets.{KeepsKeys}
 use Rattle.set_cursors.specs.Filters.{difference}
@@ -29,12 +29,12 @@ loop-key-preserved g c =
     let view = g.C.DocCursor.remaining in
     let here = sym c.seek_has.ensures.value ∙ c.if-not-seek_has.false in
     subst (λ (ks : List DocKey). record {
-        keys : difference ks (view c.seek_has.new.operand) ≡ difference (view c.args.first.now) (view c.args.second.now);
-        operands : KeepsKeys (difference ks (view c.seek_has.new.operand)) (pair (view c.args.first.now) (view c.args.second.now)) (pair ks (view c.seek_has.new.operand));
-      }) (sym c.step.ensures)
+      keys : difference ks (view c.seek_has.new.operand) ≡ difference (view c.args.first.now) (view c.args.second.now);
+      operands : KeepsKeys (difference ks (view c.seek_has.new.operand)) (pair (view c.args.first.now) (view c.args.second.now)) (pair ks (view c.seek_has.new.operand));
+    }) (sym c.step.ensures)
     (record {
       keys = go_keys (view c.args.first.now) (view c.args.second.now) (view c.loop-key.first) (view c.loop-key.second) (view c.seek_has.new.operand) c.in-Some.key
-    c.in-Some.ensures.first c.peek.ensures.ranked c.seek_has.ensures.moves c.loop-key.invariant.keys c.loop-key.invariant.operands here;
+          c.in-Some.ensures.first c.peek.ensures.ranked c.seek_has.ensures.moves c.loop-key.invariant.keys c.loop-key.invariant.operands here;
       operands = go_operands (view c.args.first.now) (view c.args.second.now) (view c.loop-key.first) (view c.loop-key.second) (view c.seek_has.new.operand) c.in-Some.key
-    c.in-Some.ensures.first c.peek.ensures.ranked c.seek_has.ensures.moves c.loop-key.invariant.keys c.loop-key.invariant.operands here;
+          c.in-Some.ensures.first c.peek.ensures.ranked c.seek_has.ensures.moves c.loop-key.invariant.keys c.loop-key.invariant.operands here;
     })

@@ -1,5 +1,4 @@
-use Rattle.std.proofs.Common.{◌≡◌, ℕ, ◌<◌, ◌∙◌, ap, sym, subst, Option, None, Some, not, length, map, set, arith}
-use Rattle.std.specs.Ordering.{is_eq, is_ne}
+use Rattle.std.proofs.Common.{sym, subst, Option, map, set, arith}
 use Rattle.uni_base.specs.declared.entity.DocKey.{DocKey}
 use Rattle.set_cursors.specs.Leaps.{IsAsked}
 use Rattle.set_cursors.proofs.Asked.{step_end, step_later, step_there, step_all, is_eq-from_ne}
@@ -13,7 +12,7 @@ returns-in_err-at g c =
     let view = g.C.DocCursor.remaining in
     subst (λ (o : Option DocKey). IsAsked c.args.key.now o (map view c.args.operands.now.items) (map view (set c.loop-i.operands.items c.loop-i.i c.ask.new.operand))) (sym c.from_residual.ensures)
     (step_end view c.args.key.now c.args.operands.now.items c.loop-i.operands.items c.loop-i.i c.index_mut.result.now c.ask.new.operand
-      (omega (arith, c.args.operands.now.ok.0)) c.loop-i.invariant.moved c.index_mut.ensures.value c.ask.ensures.moves c.in_err-at.ensures.at)
+    (omega (arith, c.args.operands.now.ok.0)) c.loop-i.invariant.moved c.index_mut.ensures.value c.ask.ensures.moves c.in_err-at.ensures.at)
 
 pub returns-then-is_ne : goal.returns-then-is_ne
 returns-then-is_ne g c =

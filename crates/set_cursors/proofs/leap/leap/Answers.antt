@@ -1,10 +1,7 @@
-use Rattle.std.proofs.Common.{◌≡◌, List, Option, Some, ◌∙◌, ap, sym, subst, length, slice_get, map, arith}
+use Rattle.std.proofs.Common.{List, Option, ◌∙◌, ap, sym, subst, slice_get, map, arith}
 use Rattle.std.proofs.lemmas.List.{length-map}
 use Rattle.std.specs.Ordering.{is_eq}
 use Rattle.uni_base.specs.declared.entity.DocKey.{DocKey}
-use Rattle.uni_base.specs.RankOrder.{doc_cmp}
-use Rattle.uni_base.specs.KeySets.{KeepsKeys}
-use Rattle.set_cursors.specs.Filters.{common}
 use Rattle.set_cursors.specs.Leaps.{StandsAt}
 use Rattle.set_cursors.proofs.Shared.{KeepsShared_refl, stands_nowhere, asked_nearer, turn_keeps, turn_common, turn_operands, stands_there, start_some, start_none, start_bounds, start_among}
 use Rattle.set_cursors.proofs.leap.leap.Goals as goal
@@ -13,7 +10,7 @@ pub returns-in_err-key-clause-stands : goal.returns-in_err-key-clause-stands
 returns-in_err-key-clause-stands g c =
     subst (λ (o : Option DocKey). StandsAt o (map g.C.DocCursor.remaining c.args.operands.now.items)) (sym c.from_residual-in_err-key.ensures)
     (start_none g.C.DocCursor.remaining c.args.operands.now.items c.in_ok-first.field-0.now
-      (c.in_ok-first.ensures.value ∙ ap (λ (xs : List g.row.C.Denot). slice_get xs 0) c.deref.ensures.value) c.in_err-key.ensures.first)
+    (c.in_ok-first.ensures.value ∙ ap (λ (xs : List g.row.C.Denot). slice_get xs 0) c.deref.ensures.value) c.in_err-key.ensures.first)
 
 pub loop-at-init : goal.loop-at-init
 loop-at-init g c =
@@ -71,7 +68,7 @@ loop-at-preserved g c =
     record {
       some = omega (arith, c.loop-at.operands.ok.0, c.ask_all.new.operands.ok.0, c.ask_all.ensures.count, length-map c.loop-at.operands.items view, length-map c.ask_all.new.operands.items view);
       keeps = turn_keeps (map g.C.DocCursor.remaining c.args.operands.now.items) (map g.C.DocCursor.remaining c.loop-at.operands.items) (map g.C.DocCursor.remaining c.ask_all.new.operands.items)
-    c.loop-at.key c.ask_all.result c.loop-at.invariant.keeps c.loop-at.invariant.bounds c.ask_all.ensures;
+          c.loop-at.key c.ask_all.result c.loop-at.invariant.keeps c.loop-at.invariant.bounds c.ask_all.ensures;
       bounds = reached.bounds;
       is_among = reached.is_among;
     }

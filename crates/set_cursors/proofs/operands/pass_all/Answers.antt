@@ -8,7 +8,7 @@ pub pass-requires : goal.pass-requires
 pass-requires g c =
     let view = g.C.DocCursor.remaining in
     let at = at_old view (without c.args.key.now) c.args.operands.now.items c.loop-i.operands.items c.loop-i.i c.index_mut.result.now
-        (omega (arith, c.args.operands.now.ok.0)) c.loop-i.invariant c.index_mut.ensures.value [] in
+    (omega (arith, c.args.operands.now.ok.0)) c.loop-i.invariant c.index_mut.ensures.value [] in
     subst (HasNoneBefore c.args.key.now) (sym at) (c.requires c.loop-i.i)
 
 pub loop-i-preserved : goal.loop-i-preserved

@@ -1,6 +1,5 @@
 use Rattle.std.proofs.Common.{◌≡◌, ◌++◌, map, take, drop}
 use Rattle.uni_base.specs.KeySets.{without}
-use Rattle.uni_base.specs.Cursors.{keys_from}
 use Rattle.set_cursors.proofs.operands.pass_all.Given as goal
 
 abbrev pub invariant-loop-i : goal.invariant-loop-i

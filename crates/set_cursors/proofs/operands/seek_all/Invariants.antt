@@ -1,5 +1,4 @@
 use Rattle.std.proofs.Common.{◌≡◌, ◌++◌, map, take, drop}
-use Rattle.uni_base.specs.KeySets.{without}
 use Rattle.uni_base.specs.Cursors.{keys_from}
 use Rattle.set_cursors.proofs.operands.seek_all.Given as goal
 

@@ -1,4 +1,4 @@
-use Rattle.std.proofs.Common.{◌≡◌, not, ◌∙◌, ap, subst, slice_get}
+use Rattle.std.proofs.Common.{not, ◌∙◌, ap, subst, slice_get}
 use Rattle.uni_base.specs.Cursors.{IsRanked}
 use Rattle.uni_base.specs.KeySets.{has_key}
 use Rattle.uni_base.proofs.RankedLemmas.{IsRanked-filter}
