@@ -1,3 +1,5 @@
 mod Cut
 mod Digits
 mod Pieces
+pub mod RankedLemmas
+pub mod UnitedLemmas

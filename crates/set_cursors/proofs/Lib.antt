@@ -1,0 +1,7 @@
+mod Asked
+mod Commons
+mod Differences
+mod Filtered
+mod FirstKeys
+mod Moved
+mod Shared

@@ -1,0 +1,20 @@
+use Rattle.std.proofs.Common.{◌≡◌, ◌<◌, true, false, length, map, vec_len}
+use Rattle.uni_base.specs.declared.entity.DocKey.{DocKey}
+use Rattle.uni_base.specs.Cursors.{is_before, keys_from}
+use Rattle.uni_base.specs.KeySets.{has_key, united}
+use Rattle.set_cursors.proofs.Shared.{KeepsShared, all_have}
+use Rattle.set_cursors.proofs.leap.leap.Given as goal
+
+abbrev pub invariant-loop-at : goal.invariant-loop-at
+invariant-loop-at g l =
+    let olds = map g.C.DocCursor.remaining l.initial.operands.items in
+    let nows = map g.C.DocCursor.remaining l.operands.items in
+    record {
+      some : 0 < vec_len l.operands;
+      keeps : KeepsShared olds nows;
+      bounds : (k : DocKey) → all_have k nows ≡ true → is_before k l.key ≡ false;
+      is_among : has_key (united nows) l.key ≡ true;
+    }
+
+abbrev pub decreases-loop-at : goal.decreases-loop-at
+decreases-loop-at g l = length (keys_from l.key (united (map g.C.DocCursor.remaining l.operands.items)))

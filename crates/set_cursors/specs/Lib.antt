@@ -1,0 +1,4 @@
+pub mod Differences
+pub mod Filters
+pub mod Firsts
+pub mod Leaps

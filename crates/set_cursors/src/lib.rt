@@ -1,0 +1,13 @@
+//! Cursors over what several cursors have: the keys that all of them have, that some of them has, or
+//! that one has and another lacks.
+#![tactic(auto)]
+
+mod and;
+mod difference;
+mod leap;
+mod operands;
+mod or;
+
+pub use and::AndCursor;
+pub use difference::DifferenceCursor;
+pub use or::OrCursor;

@@ -1,0 +1,92 @@
+ghost use Rattle.std.specs.Prelude.{◌≡◌, ◌<◌, List, [], drop, length, map, slice_get, slice_index_or, Some};
+ghost use Rattle.std.specs.Bool.{OnTrue};
+ghost use Rattle.uni_base.specs.Cursors.{IsRanked, keys_from};
+ghost use Rattle.uni_base.specs.KeySets.{has_first, united, KeepsKeys};
+
+use crate::operands::{first_of, is_at, pass_all, seek_all};
+use std::marker::Model;
+use uni_base::{DocCursor, DocKey};
+
+/// A cursor over the keys that some operand has. Contracts see it as its operands.
+#[derive(Drop)]
+pub struct OrCursor<C: DocCursor> {
+    operands: Vec<C>,
+    // the first of all keys
+    first: Option<DocKey>,
+}
+
+impl<C: DocCursor> Model for OrCursor<C> {
+    ghost use Rattle.std.specs.Prelude.{◌≡◌, List, map, slice_get};
+    ghost use Rattle.uni_base.specs.KeySets.{united};
+
+    ghost Value = { List C };
+
+    ghost view = { λ c. c.operands.items };
+
+    ghost invariant = { λ c. c.first ≡ slice_get (united (map C.remaining c.operands.items)) 0 };
+}
+
+impl<C: DocCursor> OrCursor<C> {
+    /// The cursor over these operands. It is at its end where there is none.
+    pub fn new(operands: Vec<C>) -> OrCursor<C>
+        ensures { result ≡ operands.items }
+    {
+        let first = first_of(operands.as_slice());
+        OrCursor { operands, first }
+    }
+
+    /// Whether an operand, counted from 0, has the current key. No operand has it at the end.
+    pub fn matches(&self, i: usize) -> bool
+        requires { i < length self.now }
+        ensures holds { let lists = map C.remaining self.now in
+            result ≡ has_first (slice_index_or lists i []) (united lists) }
+        ensures current { let lists = map C.remaining self.now in
+            OnTrue result (slice_get (slice_index_or lists i []) 0 ≡ slice_get (united lists) 0) }
+    {
+        match self.first {
+            Some(key) => is_at(&self.operands[i], key),
+            None => false,
+        }
+    }
+
+    /// An operand, counted from 0.
+    pub fn operand(&self, i: usize) -> &C
+        requires { i < length self.now }
+        ensures { slice_get self.now i ≡ Some result.now }
+    {
+        &self.operands[i]
+    }
+}
+
+impl<C: DocCursor> DocCursor for OrCursor<C> {
+    ghost use Rattle.std.specs.Prelude.{map};
+    ghost use Rattle.uni_base.specs.KeySets.{united};
+
+    ghost remaining = { λ operands. united (map C.remaining operands) };
+
+    fn peek(&self) -> Option<DocKey> {
+        self.first
+    }
+
+    fn step(&mut self)
+        ensures after { let olds = map C.remaining self.old in let news = map C.remaining self.new in
+            united news ≡ drop 1 (united olds) }
+        ensures operands { let olds = map C.remaining self.old in let news = map C.remaining self.new in
+            KeepsKeys (united news) olds news }
+    {
+        if let Some(key) = self.first {
+            pass_all(&mut self.operands, &key);
+            self.first = first_of(self.operands.as_slice());
+        }
+    }
+
+    fn seek(&mut self, from: DocKey)
+        ensures after { let olds = map C.remaining self.old in let news = map C.remaining self.new in
+            united news ≡ keys_from from (united olds) }
+        ensures operands { let olds = map C.remaining self.old in let news = map C.remaining self.new in
+            KeepsKeys (united news) olds news }
+    {
+        seek_all(&mut self.operands, &from);
+        self.first = first_of(self.operands.as_slice());
+    }
+}
