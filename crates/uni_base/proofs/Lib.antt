@@ -1,3 +1,4 @@
+pub mod FieldLemmas
 mod Cut
 mod Digits
 mod Pieces

@@ -25,7 +25,7 @@ mod word;
 pub use cursor::DocCursor;
 pub use edge::{Audience, EdgeRef, Held, Key};
 pub use entity::{DocKey, EntityId, Rank};
-pub use fields::cut_at;
+pub use fields::{Fields, cut_at, is_skipped};
 pub use limits::Limits;
 pub use memory_sink::MemorySink;
 pub use memory_source::MemorySource;
