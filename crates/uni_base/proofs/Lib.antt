@@ -4,3 +4,5 @@ mod Digits
 mod Pieces
 pub mod RankedLemmas
 pub mod UnitedLemmas
+pub mod WalkLaws
+pub mod WalkSteps

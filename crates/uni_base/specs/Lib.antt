@@ -3,6 +3,7 @@ pub mod EdgeOrder
 pub mod Fields
 pub mod KeySets
 pub mod RankOrder
+pub mod WalkLaws
 pub mod Walks
 pub mod Words
 pub mod MemoryStreams

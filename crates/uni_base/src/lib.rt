@@ -8,6 +8,7 @@ mod cursor;
 mod edge;
 mod entity;
 mod fields;
+pub mod laws;
 mod limits;
 mod memory_sink;
 mod memory_source;
