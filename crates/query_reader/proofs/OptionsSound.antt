@@ -20,7 +20,7 @@ use Rattle.query_reader.specs.declared.open_list.Tail.TheVariants as tails
 use Rattle.query_reader.specs.Values.{option_of, weight_over, weight_between}
 use Rattle.query_reader.specs.Reading.{Lexeme, Part, operator_due, term_due, term_read, operands_read, prefix_due, node_due, node_read, OpenList, refuse, going_on, parent_kind, is_join, is_plain, may_take, option_found, option_token, with_limit, with_mark, limit_value, mark_value, value_token}
 use Rattle.query_reader.specs.Grammar.{IsOption, LimitSpells, MarkSpells, OptionsSpell, MayHave}
-use Rattle.query_reader.proofs.Standing.{IsOfKind, kind_stands, PartSpells, LimitStands, Endable, Waiting, Holds}
+use Rattle.query_reader.proofs.Standing.{IsOfKind, kind_stands, PartSpells, LimitStands, Endable, TailSpells, Waiting, Holds}
 use Rattle.query_reader.proofs.Bytes.{both-true}
 
 -- whether an option may stand does not depend on what is due
@@ -29,6 +29,16 @@ pub may_same : (format : ℕ) (name : OptionName) (list : OpenList) (parent : Op
 may_same format options.Limit list parent tail = refl
 may_same format (options.Mark kind) list None tail = refl
 may_same format (options.Mark kind) list (Some operator) tail = refl
+
+-- one more token in a list whose part stays
+stays_holds : (dialect : Dialect) (new : OpenList) (lists : List OpenList) (nodes : ℕ) (token left : Lexeme) (body given outer own : List Lexeme)
+    → own ≡ left ∷ (body ++ given) → (left.kind ≡ tokens.Left) × (left.column ≡ new.column) → PartSpells dialect new.part body
+    → TailSpells dialect new.tail new (parent_kind lists) (given ++ token ∷ []) → Waiting dialect lists outer
+    → Holds dialect (going_on (new ∷ lists) nodes) (outer ++ (own ++ token ∷ []))
+stays_holds dialect new lists nodes token left body given outer own is_own is_left spells tail waiting =
+    let is_more : own ++ token ∷ [] ≡ left ∷ (body ++ (given ++ token ∷ [])) =
+    ap (λ xs. xs ++ token ∷ []) is_own ∙ ap (λ xs. left ∷ xs) (append_assoc body given (token ∷ [])) in
+    (outer, (own ++ token ∷ [], (refl, (left, (body, (given ++ token ∷ [], (is_more, is_left, spells, tail)))), waiting)))
 
 pub option_found_holds : (dialect : Dialect) (list : OpenList) (lists : List OpenList) (nodes : ℕ) (token : Lexeme)
     (left : Lexeme) (body given outer own : List Lexeme) (name : Option OptionName)
@@ -42,31 +52,10 @@ option_found_holds dialect list lists nodes token left body given outer own (Som
   where
     go : (may : Bool) → may_take dialect.format name list (parent_kind lists) ≡ may
         → Holds dialect (cond may (going_on (record list { tail = tails.ValueDue name } ∷ lists) nodes) (refuse 36 token)) (outer ++ (own ++ token ∷ []))
-    go true may = (
-      outer,
-      (
-        own ++ token ∷ [],
-        (
-          refl,
-          (
-            left,
-            (
-              body,
-              (
-                given ++ token ∷ [],
-                (
-                  ap (λ xs. xs ++ token ∷ []) is_own ∙ ap (λ xs. left ∷ xs) (append_assoc body given (token ∷ [])),
-                  is_left,
-                  spells,
-                  (given, (token, (refl, (is_option, is_name), may_same dialect.format name list (parent_kind lists) (tails.ValueDue name) ∙ may, endable))),
-                ),
-              ),
-            ),
-          ),
-          waiting,
-        ),
-      ),
-    )
+    go true may =
+        stays_holds dialect (record list { tail = tails.ValueDue name }) lists nodes token left body given outer own is_own is_left spells
+        (given, (token, (refl, (is_option, is_name), may_same dialect.format name list (parent_kind lists) (tails.ValueDue name) ∙ may, endable)))
+        waiting
     go false may = tt
 
 pub option_holds : (dialect : Dialect) (list : OpenList) (lists : List OpenList) (nodes : ℕ) (token : Lexeme)
@@ -131,49 +120,19 @@ pub with_limit_holds : (dialect : Dialect) (list : OpenList) (lists : List OpenL
     → Holds dialect (with_limit list lists nodes token value) (outer ++ (own ++ token ∷ []))
 with_limit_holds dialect list lists nodes token option left body before given outer own None is_kind is_value is_own is_left spells is_given is_option may endable waiting = tt
 with_limit_holds dialect list lists nodes token option left body before given outer own (Some limit) is_kind is_value is_own is_left spells is_given is_option may endable waiting =
-    let free = limit_may list (parent_kind lists) list.part list.limit may in (
-      outer,
-      (
-        own ++ token ∷ [],
-        (
-          refl,
-          (
-            left,
-            (
-              body,
-              (
-                given ++ token ∷ [],
-                (
-                  ap (λ xs. xs ++ token ∷ []) is_own ∙ ap (λ xs. left ∷ xs) (append_assoc body given (token ∷ [])),
-                  is_left,
-                  spells,
-                  record {
-                    spelled = (
-                      before,
-                      (
-                        option ∷ token ∷ [],
-                        (
-                          valued before given option token is_given,
-                          inl (
-                            mark_alone dialect list.mark before
-                                (subst (λ (l : Option ℕ). OptionsSpell dialect list.mark l before) free.1 endable.spelled),
-                            (option, (token, (refl, is_option, (is_kind, is_value)))),
-                          ),
-                        ),
-                      ),
-                    );
-                    ends = endable.ends;
-                    may_have = endable.may_have;
-                    stands = free.0 (Some limit);
-                  },
-                ),
-              ),
-            ),
-          ),
-          waiting,
-        ),
-      ),
-    )
+    let free = limit_may list (parent_kind lists) list.part list.limit may in
+    let mark = mark_alone dialect list.mark before (subst (λ (l : Option ℕ). OptionsSpell dialect list.mark l before) free.1 endable.spelled) in
+    stays_holds dialect (record list { limit = Some limit; tail = tails.OptionRead }) lists nodes token left body given outer own is_own is_left spells
+    (record {
+      spelled = (
+        before,
+        (option ∷ token ∷ [], (valued before given option token is_given, inl (mark, (option, (token, (refl, is_option, (is_kind, is_value))))))),
+      );
+      ends = endable.ends;
+      may_have = endable.may_have;
+      stands = free.0 (Some limit);
+    })
+    waiting
 
 pub marked_holds : (dialect : Dialect) (list : OpenList) (lists : List OpenList) (nodes : ℕ) (token option left : Lexeme)
     (body before given outer own : List Lexeme) (mark : Mark)
@@ -182,49 +141,16 @@ pub marked_holds : (dialect : Dialect) (list : OpenList) (lists : List OpenList)
     → given ≡ before ++ option ∷ []
     → Endable dialect list.part list.mark list.limit (parent_kind lists) before → Waiting dialect lists outer
     → Holds dialect (with_mark list lists nodes token (Some mark)) (outer ++ (own ++ token ∷ []))
-marked_holds dialect list lists nodes token option left body before given outer own mark mark_spells may was_plain is_own is_left spells is_given endable waiting = (
-  outer,
-  (
-    own ++ token ∷ [],
-    (
-      refl,
-      (
-        left,
-        (
-          body,
-          (
-            given ++ token ∷ [],
-            (
-              ap (λ xs. xs ++ token ∷ []) is_own ∙ ap (λ xs. left ∷ xs) (append_assoc body given (token ∷ [])),
-              is_left,
-              spells,
-              record {
-                spelled = (
-                  before,
-                  (
-                    option ∷ token ∷ [],
-                    (
-                      valued before given option token is_given,
-                      inr (
-                        limit_alone dialect list.limit before
-                            (subst (λ (m : Mark). OptionsSpell dialect m list.limit before) was_plain endable.spelled),
-                        mark_spells,
-                      ),
-                    ),
-                  ),
-                );
-                ends = endable.ends;
-                may_have = may;
-                stands = endable.stands;
-              },
-            ),
-          ),
-        ),
-      ),
-      waiting,
-    ),
-  ),
-)
+marked_holds dialect list lists nodes token option left body before given outer own mark mark_spells may was_plain is_own is_left spells is_given endable waiting =
+    let limit = limit_alone dialect list.limit before (subst (λ (m : Mark). OptionsSpell dialect m list.limit before) was_plain endable.spelled) in
+    stays_holds dialect (record list { mark = mark; tail = tails.OptionRead }) lists nodes token left body given outer own is_own is_left spells
+    (record {
+      spelled = (before, (option ∷ token ∷ [], (valued before given option token is_given, inr (limit, mark_spells))));
+      ends = endable.ends;
+      may_have = may;
+      stands = endable.stands;
+    })
+    waiting
 
 -- the mark that a value gives its option
 pub record MarkGiven (kind : MarkKind) (option token : Lexeme) (mark : Mark) : Type 0 where

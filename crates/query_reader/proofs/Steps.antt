@@ -55,33 +55,32 @@ enough count least h =
     elim (leb_tells (suc count) least) [ inl few ↦ absurd (omega (arith, few.1)) | inr many ↦ many.0 ]
 
 -- the step of an end, and of an option, in a list that may end
-pub right_by_part : (dialect : Dialect) (list : OpenList) (lists : List OpenList) (nodes : ℕ) (token : Lexeme) (part : Part)
-    → PartEnds part → token.kind ≡ tokens.Right → part_token dialect list lists nodes token part ≡ close dialect list lists nodes token
-right_by_part dialect list lists nodes token operator_due ends is_right = absurd ends
-right_by_part dialect list lists nodes token term_due ends is_right = absurd ends
-right_by_part dialect list lists nodes token (term_read column kind type_name key) ends is_right =
-    ap (λ (k : TokenKind). end_token dialect list lists nodes token k) is_right
-right_by_part dialect list lists nodes token (operands_read kind forest) ends is_right =
-    ap (λ (k : TokenKind). operands_token dialect list lists nodes token kind (operand_count forest) k) is_right
-    ∙ ap (λ (b : Bool). cond b (refuse 35 token) (close dialect list lists nodes token)) (enough (operand_count forest) (least_operands kind) ends)
-right_by_part dialect list lists nodes token (prefix_due join) ends is_right = absurd ends
-right_by_part dialect list lists nodes token (node_due join column type_name) ends is_right = absurd ends
-right_by_part dialect list lists nodes token (node_read join column type_name node) ends is_right =
-    ap (λ (k : TokenKind). end_token dialect list lists nodes token k) is_right
+by_part : (dialect : Dialect) (list : OpenList) (lists : List OpenList) (nodes : ℕ) (token : Lexeme) (part : Part) (kind : TokenKind) (done : Result State Refused)
+    → end_token dialect list lists nodes token kind ≡ done
+    → ((operator : ListKind) (count : ℕ) → operands_token dialect list lists nodes token operator count kind ≡ cond (nat_lt count (least_operands operator)) (refuse 35 token) done)
+    → PartEnds part → token.kind ≡ kind → part_token dialect list lists nodes token part ≡ done
+by_part dialect list lists nodes token operator_due kind done ended operands ends is_kind = absurd ends
+by_part dialect list lists nodes token term_due kind done ended operands ends is_kind = absurd ends
+by_part dialect list lists nodes token (term_read column term type_name key) kind done ended operands ends is_kind =
+    ap (λ (k : TokenKind). end_token dialect list lists nodes token k) is_kind ∙ ended
+by_part dialect list lists nodes token (operands_read operator forest) kind done ended operands ends is_kind =
+    ap (λ (k : TokenKind). operands_token dialect list lists nodes token operator (operand_count forest) k) is_kind
+    ∙ operands operator (operand_count forest)
+    ∙ ap (λ (b : Bool). cond b (refuse 35 token) done) (enough (operand_count forest) (least_operands operator) ends)
+by_part dialect list lists nodes token (prefix_due join) kind done ended operands ends is_kind = absurd ends
+by_part dialect list lists nodes token (node_due join column type_name) kind done ended operands ends is_kind = absurd ends
+by_part dialect list lists nodes token (node_read join column type_name node) kind done ended operands ends is_kind =
+    ap (λ (k : TokenKind). end_token dialect list lists nodes token k) is_kind ∙ ended
 
-pub option_by_part : (dialect : Dialect) (list : OpenList) (lists : List OpenList) (nodes : ℕ) (token : Lexeme) (part : Part)
+right_by_part : (dialect : Dialect) (list : OpenList) (lists : List OpenList) (nodes : ℕ) (token : Lexeme) (part : Part)
+    → PartEnds part → token.kind ≡ tokens.Right → part_token dialect list lists nodes token part ≡ close dialect list lists nodes token
+right_by_part dialect list lists nodes token part =
+    by_part dialect list lists nodes token part tokens.Right (close dialect list lists nodes token) refl (λ operator count. refl)
+
+option_by_part : (dialect : Dialect) (list : OpenList) (lists : List OpenList) (nodes : ℕ) (token : Lexeme) (part : Part)
     → PartEnds part → token.kind ≡ tokens.Option → part_token dialect list lists nodes token part ≡ option_token dialect list lists nodes token
-option_by_part dialect list lists nodes token operator_due ends is_option = absurd ends
-option_by_part dialect list lists nodes token term_due ends is_option = absurd ends
-option_by_part dialect list lists nodes token (term_read column kind type_name key) ends is_option =
-    ap (λ (k : TokenKind). end_token dialect list lists nodes token k) is_option
-option_by_part dialect list lists nodes token (operands_read kind forest) ends is_option =
-    ap (λ (k : TokenKind). operands_token dialect list lists nodes token kind (operand_count forest) k) is_option
-    ∙ ap (λ (b : Bool). cond b (refuse 35 token) (option_token dialect list lists nodes token)) (enough (operand_count forest) (least_operands kind) ends)
-option_by_part dialect list lists nodes token (prefix_due join) ends is_option = absurd ends
-option_by_part dialect list lists nodes token (node_due join column type_name) ends is_option = absurd ends
-option_by_part dialect list lists nodes token (node_read join column type_name node) ends is_option =
-    ap (λ (k : TokenKind). end_token dialect list lists nodes token k) is_option
+option_by_part dialect list lists nodes token part =
+    by_part dialect list lists nodes token part tokens.Option (option_token dialect list lists nodes token) refl (λ operator count. refl)
 
 pub right_step : (dialect : Dialect) (at : ℕ) (part : Part) (mark : Mark) (limit : Option ℕ) (tail : Tail) (lists : List OpenList) (nodes : ℕ) (token : Lexeme)
     → IsSettled tail → PartEnds part → token.kind ≡ tokens.Right
