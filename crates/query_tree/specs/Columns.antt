@@ -1,6 +1,12 @@
--- Queries that are equal but for columns.
-use Rattle.std.specs.Prelude.{◌≡◌}
+-- Where a query's nodes stand, and queries that are equal but for that.
+use Rattle.std.specs.Prelude.{ℕ, ◌≡◌}
 use Rattle.query_tree.specs.Tree.{Tree, Forest, term_at, list_at, join_at, no_operands, with_operand}
+
+-- a node's own column
+abbrev pub column_of : Tree → ℕ
+column_of (term_at column _ _ _) = column
+column_of (list_at column _ _) = column
+column_of (join_at column _ _ _ _ _) = column
 
 -- the query with every column 1, as one that was never a text
 abbrev mutual

@@ -1,4 +1,5 @@
 ghost use Rattle.std.specs.Prelude.{◌≡◌, ◌<◌, ◌^◌};
+ghost use Rattle.query_tree.specs.Columns.{column_of};
 ghost use Rattle.query_tree.specs.Tree.{joined, joined_of, listed, listed_of, termed, tree_of};
 ghost use Rattle.query_tree.specs.Size.{mark_depth, node_count, tree_depth};
 
@@ -101,6 +102,21 @@ impl Query {
         match kind {
             JoinKind::Apply => Query::Apply(node),
             JoinKind::Extract => Query::Extract(node),
+        }
+    }
+
+    /// Where it stands: its own column.
+    pub fn column(&self) -> u32
+        ensures { result ≡ column_of (tree_of self.now) }
+    {
+        match self {
+            Query::Term(term) | Query::Prefix(term) => term.column,
+            Query::And(list)
+            | Query::Or(list)
+            | Query::Difference(list)
+            | Query::WeakAnd(list)
+            | Query::StrongOr(list) => list.column,
+            Query::Apply(join) | Query::Extract(join) => join.column,
         }
     }
 
