@@ -147,9 +147,9 @@ fn check_join(
         });
     }
     let found = find_type(schema, join_store(kind), join.type_column, &join.type_name)?;
-    let inner = check_node(alloc, schema, joins, around + 1, &join.node)?;
     let origin = found.def.origin;
     let vertical = found.def.target;
+    let inner = check_node(alloc, schema, joins, around + 1, &join.node)?;
     if !starts_at(origin, inner.vertical) {
         return Err(QueryRefusal::Fault {
             code: APPLY_SOURCE,
