@@ -1,5 +1,5 @@
 -- The forms of the atoms that a print has.
-use Rattle.std.proofs.Common.{◌≡◌, ℕ, ◌+◌, ◌%◌, ◌^◌, ◌<◌, ◌≤◌, ◌==◌, ◌&&◌, ◌||◌, not, true, false, cond, List, [], ◌∷◌, ◌++◌, length, get_or, Option, Some, None, refl, sym, ap, ◌∙◌, subst, arith, inl, inr, append_assoc, decimal}
+use Rattle.std.proofs.Common.{◌≡◌, ℕ, ◌+◌, ◌%◌, ◌^◌, ◌<◌, ◌≤◌, ◌==◌, ◌&&◌, ◌||◌, not, true, false, cond, List, [], ◌∷◌, ◌++◌, length, get_or, Option, Some, None, is_some, refl, sym, ap, ◌∙◌, subst, arith, inl, inr, append_assoc, decimal}
 use Rattle.std.specs.Prelude.{nat_le}
 use Rattle.std.specs.List.{list_all}
 use Rattle.std.specs.Str.Parse.{digits_value}
@@ -7,24 +7,28 @@ use Rattle.std.proofs.lemmas.Bool.Decides.{nat_tests, leb_tells}
 use Rattle.std.proofs.lemmas.List.Folds.{list_all-append}
 use Rattle.std.proofs.lemmas.Fmt.{decimal_is_IsNumeral, decimal_by_steps, decimal_digit, decimal_nonempty, first_decimal, length-decimal-le}
 use Rattle.uni_base.specs.Words.{is_digit, is_word_byte, is_word, starts_with_letter}
-use Rattle.uni_base.specs.Numbers.{is_number, number_of, starts_with_zero}
+use Rattle.std.specs.Option.{option_and_then, option_map, option_or}
+use Rattle.uni_base.specs.Numbers.{is_number, number_of, number_between, starts_with_zero}
 use Rattle.uni_base.specs.Fields.{cut_at}
 use Rattle.query_tree.specs.declared.query.Mark.TheVariants.{Hits, Weight}
-use Rattle.query_tree.specs.Within.{IsTypeName, IsKeyText}
-use Rattle.query_tree.specs.Text.{pair_text}
+use Rattle.query_tree.specs.declared.kind.TermKind.{TermKind}
+use Rattle.query_tree.specs.declared.kind.TermKind.TheVariants as terms
+use Rattle.query_tree.specs.Within.{IsTypeName, IsKeyText, MayBegin}
+use Rattle.query_tree.specs.Text.{key_text, pair_text}
 use Rattle.query_reader.specs.declared.token.TokenKind.{TokenKind}
 use Rattle.query_reader.specs.declared.token.TokenKind.TheVariants as kinds
-use Rattle.query_reader.specs.Atoms.{is_name, is_empty, pair_kind, colon_kind, slash_kind, or_else, atom_kind}
+use Rattle.query_reader.specs.Atoms.{is_name, is_empty, before_star, starred_word, key_kind, pair_kind, colon_kind, slash_kind, atom_kind}
 use Rattle.query_reader.specs.Tokens.{is_atom_byte}
-use Rattle.query_reader.specs.Values.{if_within, number_within, hits_with, hits_of, weight_over, weight_under, weight_parts, weight_of}
-use Rattle.query_reader.specs.Reading.{both_words, pair_of, front_word, prefix_of}
-use Rattle.query_reader.proofs.Bytes.{both-true, and-false, all-weaker, not-all, other_than, uncut, cut-first, word-atom, word-no_colon, digit-atom, digit-no_colon, digit-no_slash, digit-no_letter}
+use Rattle.query_reader.specs.Values.{hits_of, weight_over, weight_between, weight_of}
+use Rattle.query_reader.specs.Reading.{key_of, both_words, pair_of, front_word, prefix_of}
+use Rattle.query_reader.specs.Grammar.{atom_of}
+use Rattle.query_reader.proofs.Bytes.{both-true, and-false, all-weaker, not-all, other_than, uncut, cut-first, word-atom, word-no_colon, word-no_star, digit-atom, digit-no_colon, digit-no_slash, digit-no_letter}
 
 -- a text is an atom of a kind: its bytes are those of atoms, there is one, and it is in the kind's form
-pub record IsAtom (bytes : List ℕ) (kind : TokenKind) : Type 0 where
+pub record IsAtom (format : ℕ) (bytes : List ℕ) (kind : TokenKind) : Type 0 where
   pub some : 0 < length bytes
   pub all : list_all is_atom_byte bytes ≡ true
-  pub form : atom_kind bytes ≡ Some kind
+  pub form : atom_kind format bytes ≡ Some kind
 
 -- the bytes of a word
 pub word-bytes : (text : List ℕ) → is_word text ≡ true → list_all is_word_byte text ≡ true
@@ -43,10 +47,13 @@ name-is : (text : List ℕ) → IsTypeName text → is_name text ≡ true
 name-is text name = ap (λ b. b && starts_with_letter text) name.0 ∙ name.1
 
 -- a text with a byte that no word has is no name, and one with a byte that is no digit is no number
+no_word : (front back : List ℕ) (c : ℕ) → is_word_byte c ≡ false → is_word (front ++ c ∷ back) ≡ false
+no_word front back c other =
+    ap (λ b. nat_le 1 (length (front ++ c ∷ back)) && nat_le (length (front ++ c ∷ back)) 32 && b) (not-all is_word_byte front back c other)
+    ∙ and-false (nat_le 1 (length (front ++ c ∷ back)) && nat_le (length (front ++ c ∷ back)) 32)
+
 no_name : (front back : List ℕ) (c : ℕ) → is_word_byte c ≡ false → is_name (front ++ c ∷ back) ≡ false
-no_name front back c other =
-    ap (λ b. (nat_le 1 (length (front ++ c ∷ back)) && nat_le (length (front ++ c ∷ back)) 32 && b) && starts_with_letter (front ++ c ∷ back)) (not-all is_word_byte front back c other)
-    ∙ ap (λ b. b && starts_with_letter (front ++ c ∷ back)) (and-false (nat_le 1 (length (front ++ c ∷ back)) && nat_le (length (front ++ c ∷ back)) 32))
+no_name front back c other = ap (λ b. b && starts_with_letter (front ++ c ∷ back)) (no_word front back c other)
 
 no_number : (front back : List ℕ) (c : ℕ) → is_digit c ≡ false → is_number (front ++ c ∷ back) ≡ false
 no_number front back c other =
@@ -55,17 +62,17 @@ no_number front back c other =
     ∙ ap (λ b. b && (not (starts_with_zero text) || (length text == 1))) (and-false (nat_le 1 (length text) && nat_le (length text) 20))
 
 -- the kind of an atom that is neither
-by_parts : (atom : List ℕ) (colon slash : Option (List ℕ × List ℕ)) → is_name atom ≡ false → is_number atom ≡ false
-    → cut_at 58 atom ≡ colon → cut_at 47 atom ≡ slash → atom_kind atom ≡ or_else (colon_kind colon) (slash_kind slash)
-by_parts atom colon slash name number is_colon is_slash =
-    ap (λ b. cond b (Some kinds.Name) (cond (is_number atom) (Some kinds.Number) (or_else (colon_kind (cut_at 58 atom)) (slash_kind (cut_at 47 atom))))) name
-    ∙ ap (λ b. cond b (Some kinds.Number) (or_else (colon_kind (cut_at 58 atom)) (slash_kind (cut_at 47 atom)))) number
-    ∙ ap (λ p. or_else (colon_kind p) (slash_kind (cut_at 47 atom))) is_colon
-    ∙ ap (λ p. or_else (colon_kind colon) (slash_kind p)) is_slash
+by_parts : (format : ℕ) (atom : List ℕ) (colon slash : Option (List ℕ × List ℕ)) → is_name atom ≡ false → is_number atom ≡ false
+    → cut_at 58 atom ≡ colon → cut_at 47 atom ≡ slash → atom_kind format atom ≡ option_or (colon_kind format colon) (slash_kind slash)
+by_parts format atom colon slash name number is_colon is_slash =
+    ap (λ b. cond b (Some kinds.Name) (cond (is_number atom) (Some kinds.Number) (option_or (colon_kind format (cut_at 58 atom)) (slash_kind (cut_at 47 atom))))) name
+    ∙ ap (λ b. cond b (Some kinds.Number) (option_or (colon_kind format (cut_at 58 atom)) (slash_kind (cut_at 47 atom)))) number
+    ∙ ap (λ p. option_or (colon_kind format p) (slash_kind (cut_at 47 atom))) is_colon
+    ∙ ap (λ p. option_or (colon_kind format colon) (slash_kind p)) is_slash
 
--- a name, a colon and a word
-term-text : (type_name key : List ℕ) → pair_text type_name key ≡ type_name ++ 58 ∷ key
-term-text type_name key = append_assoc type_name (58 ∷ []) key
+-- a name, a colon and a key
+term-text : (kind : TermKind) (type_name key : List ℕ) → pair_text kind type_name key ≡ type_name ++ 58 ∷ key_text kind key
+term-text kind type_name key = append_assoc type_name (58 ∷ []) (key_text kind key)
 
 name-cut : (type_name rest : List ℕ) → is_word type_name ≡ true → cut_at 58 (type_name ++ 58 ∷ rest) ≡ Some (type_name, rest)
 name-cut type_name rest word =
@@ -81,46 +88,76 @@ colon-some : (type_name rest : List ℕ) → 0 < length (type_name ++ 58 ∷ res
 colon-some [] rest = omega arith
 colon-some (c ∷ cs) rest = omega arith
 
-colon-form : (type_name rest : List ℕ) (kind : TokenKind) → IsTypeName type_name → pair_kind type_name rest ≡ Some kind
-    → atom_kind (type_name ++ 58 ∷ rest) ≡ Some kind
-colon-form type_name rest kind name is_kind =
-    by_parts (type_name ++ 58 ∷ rest) (Some (type_name, rest)) (cut_at 47 (type_name ++ 58 ∷ rest))
+colon-form : (format : ℕ) (type_name rest : List ℕ) (kind : TokenKind) → IsTypeName type_name → pair_kind format type_name rest ≡ Some kind
+    → atom_kind format (type_name ++ 58 ∷ rest) ≡ Some kind
+colon-form format type_name rest kind name is_kind =
+    by_parts format (type_name ++ 58 ∷ rest) (Some (type_name, rest)) (cut_at 47 (type_name ++ 58 ∷ rest))
     (no_name type_name rest 58 refl) (no_number type_name rest 58 refl) (name-cut type_name rest name.0) refl
-    ∙ ap (λ k. or_else k (slash_kind (cut_at 47 (type_name ++ 58 ∷ rest)))) is_kind
+    ∙ ap (λ k. option_or k (slash_kind (cut_at 47 (type_name ++ 58 ∷ rest)))) is_kind
 
-pair-kind : (type_name key : List ℕ) → IsTypeName type_name → IsKeyText key → pair_kind type_name key ≡ Some kinds.Term
-pair-kind type_name key name word =
-    ap (λ b. cond b (cond (is_name key) (Some kinds.Option) None) (cond (is_name type_name) (cond (is_empty key) (Some kinds.Prefix) (cond (is_word key) (Some kinds.Term) None)) None)) (not-empty type_name (word-some type_name name.0))
-    ∙ ap (λ b. cond b (cond (is_empty key) (Some kinds.Prefix) (cond (is_word key) (Some kinds.Term) None)) None) (name-is type_name name)
-    ∙ ap (λ b. cond b (Some kinds.Prefix) (cond (is_word key) (Some kinds.Term) None)) (not-empty key (word-some key word))
-    ∙ ap (λ b. cond b (Some kinds.Term) None) word
+-- what follows a name and its colon
+name-kind : (format : ℕ) (type_name rest : List ℕ) → IsTypeName type_name
+    → pair_kind format type_name rest ≡ cond (is_empty rest) (Some kinds.Prefix) (key_kind format rest)
+name-kind format type_name rest name =
+    ap (λ b. cond b (cond (is_name rest) (Some kinds.Option) None) (cond (is_name type_name) (cond (is_empty rest) (Some kinds.Prefix) (key_kind format rest)) None)) (not-empty type_name (word-some type_name name.0))
+    ∙ ap (λ b. cond b (cond (is_empty rest) (Some kinds.Prefix) (key_kind format rest)) None) (name-is type_name name)
 
-prefix-kind : (type_name : List ℕ) → IsTypeName type_name → pair_kind type_name [] ≡ Some kinds.Prefix
-prefix-kind type_name name =
-    ap (λ b. cond b (cond (is_name []) (Some kinds.Option) None) (cond (is_name type_name) (Some kinds.Prefix) None)) (not-empty type_name (word-some type_name name.0))
-    ∙ ap (λ b. cond b (Some kinds.Prefix) None) (name-is type_name name)
+-- the key of a prefix term
+starred : (key : List ℕ) → IsKeyText key → starred_word (key ++ 42 ∷ []) ≡ Some key
+starred key word =
+    ap before_star (cut-first 42 key [] (all-weaker is_word_byte (other_than 42) word-no_star key (word-bytes key word)) refl)
+    ∙ ap (λ b. cond (b && true) (Some key) None) word
 
-pub term-atom : (type_name key : List ℕ) → IsTypeName type_name → IsKeyText key → IsAtom (pair_text type_name key) kinds.Term
-term-atom type_name key name word =
-    subst (λ text. IsAtom text kinds.Term) (sym (term-text type_name key)) (record {
-      some = colon-some type_name key;
-      all = colon-all type_name key name.0 (all-weaker is_word_byte is_atom_byte word-atom key (word-bytes key word));
-      form = colon-form type_name key kinds.Term name (pair-kind type_name key name word);
+starred-some : (key : List ℕ) → is_empty (key ++ 42 ∷ []) ≡ false
+starred-some [] = refl
+starred-some (c ∷ cs) = refl
+
+key-kind : (format : ℕ) (kind : TermKind) (key : List ℕ) → IsKeyText key → MayBegin format kind
+    → cond (is_empty (key_text kind key)) (Some kinds.Prefix) (key_kind format (key_text kind key)) ≡ Some (atom_of kind)
+key-kind format terms.Whole key word begins =
+    ap (λ b. cond b (Some kinds.Prefix) (key_kind format key)) (not-empty key (word-some key word))
+    ∙ ap (λ b. cond b (Some kinds.Term) (cond ((format == 2) && is_some (starred_word key)) (Some kinds.Stem) None)) word
+key-kind format terms.Prefix key word begins =
+    ap (λ b. cond b (Some kinds.Prefix) (key_kind format (key ++ 42 ∷ []))) (starred-some key)
+    ∙ ap (λ b. cond b (Some kinds.Term) (cond ((format == 2) && is_some (starred_word (key ++ 42 ∷ []))) (Some kinds.Stem) None)) (no_word key [] 42 refl)
+    ∙ ap (λ (n : ℕ). cond ((n == 2) && is_some (starred_word (key ++ 42 ∷ []))) (Some kinds.Stem) None) begins
+    ∙ ap (λ (w : Option (List ℕ)). cond (is_some w) (Some kinds.Stem) None) (starred key word)
+
+key-all : (kind : TermKind) (key : List ℕ) → IsKeyText key → list_all is_atom_byte (key_text kind key) ≡ true
+key-all terms.Whole key word = all-weaker is_word_byte is_atom_byte word-atom key (word-bytes key word)
+key-all terms.Prefix key word =
+    list_all-append is_atom_byte key (42 ∷ [])
+    ∙ ap (λ b. b && true) (all-weaker is_word_byte is_atom_byte word-atom key (word-bytes key word))
+
+key-read : (kind : TermKind) (key : List ℕ) → IsKeyText key → key_of kind (key_text kind key) ≡ Some key
+key-read terms.Whole key word = ap (λ b. cond b (Some key) None) word
+key-read terms.Prefix key word = starred key word
+
+pub term-atom : (format : ℕ) (kind : TermKind) (type_name key : List ℕ) → IsTypeName type_name → IsKeyText key → MayBegin format kind
+    → IsAtom format (pair_text kind type_name key) (atom_of kind)
+term-atom format kind type_name key name word begins =
+    subst (λ text. IsAtom format text (atom_of kind)) (sym (term-text kind type_name key)) (record {
+      some = colon-some type_name (key_text kind key);
+      all = colon-all type_name (key_text kind key) name.0 (key-all kind key word);
+      form =
+          colon-form format type_name (key_text kind key) (atom_of kind) name
+          (name-kind format type_name (key_text kind key) name ∙ key-kind format kind key word begins);
     })
 
-pub term-pair : (type_name key : List ℕ) → IsTypeName type_name → IsKeyText key → pair_of (pair_text type_name key) ≡ Some (type_name, key)
-term-pair type_name key name word =
-    ap pair_of (term-text type_name key)
-    ∙ ap both_words (name-cut type_name key name.0)
-    ∙ ap (λ b. cond (b && is_word key) (Some (type_name, key)) None) name.0
-    ∙ ap (λ b. cond b (Some (type_name, key)) None) word
+pub term-pair : (kind : TermKind) (type_name key : List ℕ) → IsTypeName type_name → IsKeyText key
+    → pair_of kind (pair_text kind type_name key) ≡ Some (type_name, key)
+term-pair kind type_name key name word =
+    ap (pair_of kind) (term-text kind type_name key)
+    ∙ ap (both_words kind) (name-cut type_name (key_text kind key) name.0)
+    ∙ ap (λ b. cond b (option_map (λ (w : List ℕ). (type_name, w)) (key_of kind (key_text kind key))) None) name.0
+    ∙ ap (λ (k : Option (List ℕ)). option_map (λ (w : List ℕ). (type_name, w)) k) (key-read kind key word)
 
 -- a name and a colon
-pub prefix-atom : (type_name : List ℕ) → IsTypeName type_name → IsAtom (type_name ++ 58 ∷ []) kinds.Prefix
-prefix-atom type_name name = record {
+pub prefix-atom : (format : ℕ) (type_name : List ℕ) → IsTypeName type_name → IsAtom format (type_name ++ 58 ∷ []) kinds.Prefix
+prefix-atom format type_name name = record {
   some = colon-some type_name [];
   all = colon-all type_name [] name.0 refl;
-  form = colon-form type_name [] kinds.Prefix name (prefix-kind type_name name);
+  form = colon-form format type_name [] kinds.Prefix name (name-kind format type_name [] name);
 }
 
 pub prefix-name : (type_name : List ℕ) → IsTypeName type_name → prefix_of (type_name ++ 58 ∷ []) ≡ Some type_name
@@ -174,9 +211,9 @@ decimal-value n small =
     ap (λ b. cond b (Some (digits_value 10 (decimal n))) None) (decimal-number n small)
     ∙ ap Some (decimal_is_IsNumeral n (omega arith)).1
 
-pub decimal-within : (least most n : ℕ) → n ≤ 1000000 → least ≤ n → n ≤ most → number_within least most (decimal n) ≡ Some n
+pub decimal-within : (least most n : ℕ) → n ≤ 1000000 → least ≤ n → n ≤ most → number_between least most (decimal n) ≡ Some n
 decimal-within least most n small above below =
-    ap (if_within least most) (decimal-value n small)
+    ap (λ (o : Option ℕ). option_and_then (λ (m : ℕ). cond (nat_le least m && nat_le m most) (Some m) None) o) (decimal-value n small)
     ∙ ap (λ b. cond (b && nat_le n most) (Some n) None) (at_least least n above)
     ∙ ap (λ b. cond b (Some n) None) (at_least n most below)
 
@@ -186,16 +223,16 @@ digits-no_name (c ∷ cs) all =
     ap (λ b. is_word (c ∷ cs) && b) (digit-no_letter c (both-true (is_digit c) (list_all is_digit cs) all).0)
     ∙ and-false (is_word (c ∷ cs))
 
-pub number-atom : (n : ℕ) → n ≤ 1000000 → IsAtom (decimal n) kinds.Number
-number-atom n small =
+pub number-atom : (format n : ℕ) → n ≤ 1000000 → IsAtom format (decimal n) kinds.Number
+number-atom format n small =
     let below : n < 2 ^ 64 = omega arith in
     record {
       some = decimal_nonempty n below;
       all = all-weaker is_digit is_atom_byte digit-atom (decimal n) (decimal-digits n below);
       form =
-          ap (λ b. cond b (Some kinds.Name) (cond (is_number (decimal n)) (Some kinds.Number) (or_else (colon_kind (cut_at 58 (decimal n))) (slash_kind (cut_at 47 (decimal n))))))
+          ap (λ b. cond b (Some kinds.Name) (cond (is_number (decimal n)) (Some kinds.Number) (option_or (colon_kind format (cut_at 58 (decimal n))) (slash_kind (cut_at 47 (decimal n))))))
           (digits-no_name (decimal n) (decimal-digits n below))
-          ∙ ap (λ b. cond b (Some kinds.Number) (or_else (colon_kind (cut_at 58 (decimal n))) (slash_kind (cut_at 47 (decimal n))))) (decimal-number n small);
+          ∙ ap (λ b. cond b (Some kinds.Number) (option_or (colon_kind format (cut_at 58 (decimal n))) (slash_kind (cut_at 47 (decimal n))))) (decimal-number n small);
     }
 
 -- two numbers and a slash
@@ -210,15 +247,15 @@ fraction-no_colon n d small small_too =
     ∙ ap (λ b. b && list_all (other_than 58) (47 ∷ decimal d)) (all-weaker is_digit (other_than 58) digit-no_colon (decimal n) (decimal-digits n (omega arith)))
     ∙ all-weaker is_digit (other_than 58) digit-no_colon (decimal d) (decimal-digits d (omega arith)))
 
-pub fraction-atom : (n d : ℕ) → n ≤ 1000000 → d ≤ 1000000 → IsAtom (decimal n ++ 47 ∷ decimal d) kinds.Fraction
-fraction-atom n d small small_too = record {
+pub fraction-atom : (format n d : ℕ) → n ≤ 1000000 → d ≤ 1000000 → IsAtom format (decimal n ++ 47 ∷ decimal d) kinds.Fraction
+fraction-atom format n d small small_too = record {
   some = slash-some (decimal n) (decimal d);
   all =
       list_all-append is_atom_byte (decimal n) (47 ∷ decimal d)
       ∙ ap (λ b. b && list_all is_atom_byte (47 ∷ decimal d)) (all-weaker is_digit is_atom_byte digit-atom (decimal n) (decimal-digits n (omega arith)))
       ∙ all-weaker is_digit is_atom_byte digit-atom (decimal d) (decimal-digits d (omega arith));
   form =
-      by_parts (decimal n ++ 47 ∷ decimal d) None (Some (decimal n, decimal d))
+      by_parts format (decimal n ++ 47 ∷ decimal d) None (Some (decimal n, decimal d))
       (no_name (decimal n) (decimal d) 47 refl) (no_number (decimal n) (decimal d) 47 refl)
       (fraction-no_colon n d small small_too) (slash-cut n (decimal d) small)
       ∙ ap (λ b. cond (b && is_number (decimal d)) (Some kinds.Fraction) None) (decimal-number n small)
@@ -231,9 +268,9 @@ fraction-atom n d small small_too = record {
 
 pub fraction-weight : (n d : ℕ) → 1 ≤ n → n ≤ d → d ≤ 1000 → weight_of (decimal n ++ 47 ∷ decimal d) ≡ Some (Weight n d)
 fraction-weight n d some under small =
-    ap weight_parts (slash-cut n (decimal d) (omega arith))
-    ∙ ap (weight_under (decimal n)) (decimal-within 1 1000 d (omega arith) (omega arith) small)
-    ∙ ap (weight_over d) (decimal-within 1 d n (omega arith) some under)
+    ap weight_between (slash-cut n (decimal d) (omega arith))
+    ∙ ap (λ (o : Option ℕ). option_and_then (weight_over (decimal n)) o) (decimal-within 1 1000 d (omega arith) (omega arith) small)
+    ∙ ap (λ (o : Option ℕ). option_map (λ (m : ℕ). Weight m d) o) (decimal-within 1 d n (omega arith) some under)
 
 pub hits-value : (n : ℕ) → n ≤ 1000000 → hits_of (decimal n) ≡ Some (Hits n)
-hits-value n small = ap hits_with (decimal-within 0 1000000 n small (omega arith) small)
+hits-value n small = ap (λ (o : Option ℕ). option_map Hits o) (decimal-within 0 1000000 n small (omega arith) small)

@@ -56,6 +56,9 @@ word-atom c word = grind (arith, nat_tests)
 pub word-no_colon : (c : ℕ) → is_word_byte c ≡ true → other_than 58 c ≡ true
 word-no_colon c word = grind (arith, nat_tests)
 
+pub word-no_star : (c : ℕ) → is_word_byte c ≡ true → other_than 42 c ≡ true
+word-no_star c word = grind (arith, nat_tests)
+
 pub digit-atom : (c : ℕ) → is_digit c ≡ true → is_atom_byte c ≡ true
 digit-atom c digit = grind (arith, nat_tests)
 

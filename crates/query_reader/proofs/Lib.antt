@@ -18,6 +18,7 @@ pub mod FirstFault
 pub mod Bytes
 pub mod AtomForms
 pub mod Segments
+pub mod Runs
 pub mod Deep
 pub mod Written
 pub mod Printed

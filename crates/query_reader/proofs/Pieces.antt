@@ -104,30 +104,30 @@ after-with_piece tokens piece kind (Ok others) = ap Ok (sym (append_assoc tokens
 after-with_piece tokens piece kind (Err column) = refl
 
 -- the step of a space and of a piece, as the code takes them
-pub step-space : (read : Result (List Token) ℕ) (tokens : List Token) (at : ℕ) (xs piece others : List ℕ)
+pub step-space : (format : ℕ) (read : Result (List Token) ℕ) (tokens : List Token) (at : ℕ) (xs piece others : List ℕ)
     → 0 < length xs → get_or xs 0 0 ≡ 32 → piece ≡ front xs → others ≡ drop (length (front xs)) xs
-    → read ≡ after tokens (tokens_of (pieces at 0 xs))
-    → read ≡ after tokens (tokens_of (pieces (at + length piece) 0 others))
-step-space read tokens at xs piece others some space is_front are_others before =
+    → read ≡ after tokens (tokens_of format (pieces at 0 xs))
+    → read ≡ after tokens (tokens_of format (pieces (at + length piece) 0 others))
+step-space format read tokens at xs piece others some space is_front are_others before =
     before
-    ∙ ap (λ (ps : List Piece). after tokens (tokens_of ps)) (pieces-space at xs some space)
-    ∙ ap (λ (p : List ℕ). after tokens (tokens_of (pieces (at + length p) 0 (drop (length (front xs)) xs)))) (sym is_front)
-    ∙ ap (λ (r : List ℕ). after tokens (tokens_of (pieces (at + length piece) 0 r))) (sym are_others)
+    ∙ ap (λ (ps : List Piece). after tokens (tokens_of format ps)) (pieces-space at xs some space)
+    ∙ ap (λ (p : List ℕ). after tokens (tokens_of format (pieces (at + length p) 0 (drop (length (front xs)) xs)))) (sym is_front)
+    ∙ ap (λ (r : List ℕ). after tokens (tokens_of format (pieces (at + length piece) 0 r))) (sym are_others)
 
-pub step-piece : (read : Result (List Token) ℕ) (old new : List Token) (at : ℕ) (xs piece others : List ℕ)
+pub step-piece : (format : ℕ) (read : Result (List Token) ℕ) (old new : List Token) (at : ℕ) (xs piece others : List ℕ)
     → 0 < length xs → (get_or xs 0 0 ≡ 32 → ⊥) → piece ≡ front xs → others ≡ drop (length (front xs)) xs
-    → AddsPiece old new (record { from = at; bytes = piece })
-    → read ≡ after old (tokens_of (pieces at 0 xs))
-    → read ≡ after new (tokens_of (pieces (at + length piece) 0 others))
-step-piece read old new at xs piece others some no_space is_front are_others (kind, (is_kind, is_new)) before =
+    → AddsPiece format old new (record { from = at; bytes = piece })
+    → read ≡ after old (tokens_of format (pieces at 0 xs))
+    → read ≡ after new (tokens_of format (pieces (at + length piece) 0 others))
+step-piece format read old new at xs piece others some no_space is_front are_others (kind, (is_kind, is_new)) before =
     let Rest : List Piece = pieces (at + length piece) 0 others in
     before
-    ∙ ap (λ (ps : List Piece). after old (tokens_of ps)) (pieces-token at xs some no_space)
-    ∙ ap (λ (p : List ℕ). after old (tokens_of (record { from = at; bytes = p } ∷ pieces (at + length p) 0 (drop (length (front xs)) xs)))) (sym is_front)
-    ∙ ap (λ (r : List ℕ). after old (tokens_of (record { from = at; bytes = piece } ∷ pieces (at + length piece) 0 r))) (sym are_others)
-    ∙ ap (λ (k : Option TokenKind). after old (with_piece (record { from = at; bytes = piece }) k (tokens_of Rest))) is_kind
-    ∙ after-with_piece old (record { from = at; bytes = piece }) kind (tokens_of Rest)
-    ∙ ap (λ (ts : List Token). after ts (tokens_of Rest)) (sym is_new)
+    ∙ ap (λ (ps : List Piece). after old (tokens_of format ps)) (pieces-token at xs some no_space)
+    ∙ ap (λ (p : List ℕ). after old (tokens_of format (record { from = at; bytes = p } ∷ pieces (at + length p) 0 (drop (length (front xs)) xs)))) (sym is_front)
+    ∙ ap (λ (r : List ℕ). after old (tokens_of format (record { from = at; bytes = piece } ∷ pieces (at + length piece) 0 r))) (sym are_others)
+    ∙ ap (λ (k : Option TokenKind). after old (with_piece (record { from = at; bytes = piece }) k (tokens_of format Rest))) is_kind
+    ∙ after-with_piece old (record { from = at; bytes = piece }) kind (tokens_of format Rest)
+    ∙ ap (λ (ts : List Token). after ts (tokens_of format Rest)) (sym is_new)
 
 pub place-front : (at total : ℕ) (xs piece others : List ℕ) → 0 < length xs → piece ≡ front xs
     → others ≡ drop (length (front xs)) xs → at + length xs ≡ total → (at + length piece) + length others ≡ total
@@ -138,7 +138,7 @@ place-front at total xs piece others some is_front are_others before =
     omega (arith, bounds.0, bounds.1, length-drop (length (front xs)) xs)
 
 -- at the text's end nothing is left to read
-pub all_read : (read : Result (List Token) ℕ) (tokens : List Token) (at : ℕ) (xs : List ℕ) → length xs ≡ 0
-    → read ≡ after tokens (tokens_of (pieces at 0 xs)) → read ≡ Ok tokens
-all_read read tokens at [] ended before = before ∙ ap Ok (append-nil tokens)
-all_read read tokens at (c ∷ cs) ended before = absurd (omega arith)
+pub all_read : (format : ℕ) (read : Result (List Token) ℕ) (tokens : List Token) (at : ℕ) (xs : List ℕ) → length xs ≡ 0
+    → read ≡ after tokens (tokens_of format (pieces at 0 xs)) → read ≡ Ok tokens
+all_read format read tokens at [] ended before = before ∙ ap Ok (append-nil tokens)
+all_read format read tokens at (c ∷ cs) ended before = absurd (omega arith)

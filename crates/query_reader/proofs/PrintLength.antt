@@ -3,7 +3,9 @@ use Rattle.std.proofs.Common.{◌≡◌, ℕ, ◌+◌, ◌*◌, ◌<◌, ◌≤�
 use Rattle.std.specs.Prelude.{nat_le}
 use Rattle.std.specs.List.{list_all}
 use Rattle.std.proofs.lemmas.Fmt.{length-decimal-le}
-use Rattle.uni_base.specs.declared.limits.Limits.{Limits}
+use Rattle.query_tree.specs.declared.dialect.Dialect.{Dialect}
+use Rattle.query_tree.specs.declared.kind.TermKind.{TermKind}
+use Rattle.query_tree.specs.declared.kind.TermKind.TheVariants as terms
 use Rattle.uni_base.specs.Words.{is_word_byte, is_word}
 use Rattle.query_tree.specs.declared.kind.ListKind.{ListKind}
 use Rattle.query_tree.specs.declared.kind.ListKind.TheVariants as lists
@@ -13,10 +15,10 @@ use Rattle.query_tree.specs.declared.query.Mark.{Mark}
 use Rattle.query_tree.specs.declared.query.Mark.TheVariants.{Plain, Hits, Weight}
 use Rattle.query_tree.specs.Tree.{Tree, Forest, term_at, list_at, join_at, no_operands, with_operand}
 use Rattle.query_tree.specs.Size.{node_count, operand_nodes}
-use Rattle.query_tree.specs.Text.{list_name, join_name, mark_text, default_limit, limit_text, pair_text, node_text, operands_text}
+use Rattle.query_tree.specs.Text.{key_text, list_name, join_name, mark_text, default_limit, limit_text, pair_text, node_text, operands_text}
+use Rattle.query_tree.specs.Marks.{IsMarkValue}
 use Rattle.query_tree.specs.Within.{IsTypeName, IsKeyText, IsJoinLimit, IsAllowed, AreAllowed}
 use Rattle.query_reader.proofs.Bytes.{both-true}
-use Rattle.query_reader.proofs.Written.{IsMarkValue, mark-value}
 
 -- parts of a text, one after the other
 length-three : (a b c : List ℕ) → length ((a ++ b) ++ c) ≡ (length a + length b) + length c
@@ -34,10 +36,16 @@ word_short text word =
 number_short : (n : ℕ) → n ≤ 1000000 → length (decimal n) ≤ 7
 number_short n small = length-decimal-le 7 n (omega arith) (omega arith) (omega arith)
 
-pair_short : (type_name key : List ℕ) → IsTypeName type_name → IsKeyText key → length (pair_text type_name key) ≤ 65
-pair_short type_name key name word =
+key_short : (kind : TermKind) (key : List ℕ) → IsKeyText key → length (key_text kind key) ≤ 33
+key_short terms.Whole key word = omega (arith, word_short key word)
+key_short terms.Prefix key word =
+    let star : length (codes "*") ≡ 1 = refl in
+    omega (arith, length-append key (codes "*"), word_short key word)
+
+pair_short : (kind : TermKind) (type_name key : List ℕ) → IsTypeName type_name → IsKeyText key → length (pair_text kind type_name key) ≤ 66
+pair_short kind type_name key name word =
     let colon : length (codes ":") ≡ 1 = refl in
-    omega (arith, length-three type_name (codes ":") key, word_short type_name name.0, word_short key word)
+    omega (arith, length-three type_name (codes ":") (key_text kind key), word_short type_name name.0, key_short kind key word)
 
 mark_short : (mark : Mark) → IsMarkValue mark → length (mark_text mark) ≤ 40
 mark_short Plain value = omega arith
@@ -60,8 +68,8 @@ limit_if_short limit false small =
     let name : length (codes " :limit ") ≡ 8 = refl in
     omega (arith, length-append (codes " :limit ") (decimal limit), number_short limit small)
 
-join_limit_small : (limits : Limits) (limit : ℕ) → limits.join_limit ≤ 1000000 → IsJoinLimit limits limit → limit ≤ 1000000
-join_limit_small limits limit small allowed = omega (arith, allowed.1)
+join_limit_small : (dialect : Dialect) (limit : ℕ) → dialect.join_limit ≤ 1000000 → IsJoinLimit dialect limit → limit ≤ 1000000
+join_limit_small dialect limit small allowed = omega (arith, allowed.1)
 
 list_name_short : (kind : ListKind) → length (list_name kind) ≤ 10
 list_name_short lists.And = omega arith
@@ -74,26 +82,26 @@ join_name_short : (kind : JoinKind) → length (join_name kind) ≤ 7
 join_name_short joins.Apply = omega arith
 join_name_short joins.Extract = omega arith
 
-marked_short : (type_name key : List ℕ) (mark : Mark) → IsTypeName type_name → IsKeyText key → IsMarkValue mark
-    → length (((codes "(term " ++ pair_text type_name key) ++ mark_text mark) ++ codes ")") ≤ 112
-marked_short type_name key mark name word value =
+marked_short : (kind : TermKind) (type_name key : List ℕ) (mark : Mark) → IsTypeName type_name → IsKeyText key → IsMarkValue mark
+    → length (((codes "(term " ++ pair_text kind type_name key) ++ mark_text mark) ++ codes ")") ≤ 113
+marked_short kind type_name key mark name word value =
     let head : length (codes "(term ") ≡ 6 = refl in
     let end : length (codes ")") ≡ 1 = refl in
-    omega (arith, length-four (codes "(term ") (pair_text type_name key) (mark_text mark) (codes ")"), pair_short type_name key name word, mark_short mark value)
+    omega (arith, length-four (codes "(term ") (pair_text kind type_name key) (mark_text mark) (codes ")"), pair_short kind type_name key name word, mark_short mark value)
 
-term_short : (column : ℕ) (type_name key : List ℕ) (mark : Mark) → IsTypeName type_name → IsKeyText key → IsMarkValue mark
-    → length (node_text (term_at column type_name key) mark) ≤ 112
-term_short column type_name key Plain name word value = omega (arith, pair_short type_name key name word)
-term_short column type_name key (Hits count) name word value = marked_short type_name key (Hits count) name word value
-term_short column type_name key (Weight n d) name word value = marked_short type_name key (Weight n d) name word value
+term_short : (column : ℕ) (kind : TermKind) (type_name key : List ℕ) (mark : Mark) → IsTypeName type_name → IsKeyText key → IsMarkValue mark
+    → length (node_text (term_at column kind type_name key) mark) ≤ 113
+term_short column kind type_name key Plain name word value = omega (arith, pair_short kind type_name key name word)
+term_short column kind type_name key (Hits count) name word value = marked_short kind type_name key (Hits count) name word value
+term_short column kind type_name key (Weight n d) name word value = marked_short kind type_name key (Weight n d) name word value
 
 -- so many bytes for each node
 mutual
-  node_short : (limits : Limits) (node : Tree) (mark : Mark) → limits.join_limit ≤ 1000000 → IsAllowed limits node → IsMarkValue mark
+  node_short : (dialect : Dialect) (node : Tree) (mark : Mark) → dialect.join_limit ≤ 1000000 → IsAllowed dialect node → IsMarkValue mark
       → length (node_text node mark) + 1 ≤ 200 * node_count node
-  node_short limits (term_at column type_name key) mark small allowed value =
-      omega (arith, term_short column type_name key mark allowed.0 allowed.1 value)
-  node_short limits (list_at column kind forest) mark small allowed value =
+  node_short dialect (term_at column kind type_name key) mark small allowed value =
+      omega (arith, term_short column kind type_name key mark allowed.0 allowed.1 value)
+  node_short dialect (list_at column kind forest) mark small allowed value =
       let head : length (codes "(") ≡ 1 = refl in
       let end : length (codes ")") ≡ 1 = refl in
       omega (
@@ -102,9 +110,9 @@ mutual
         length-four (codes "(") (list_name kind) (operands_text forest) (mark_text mark),
         list_name_short kind,
         mark_short mark value,
-        forest_short limits kind forest small allowed.1,
+        forest_short dialect kind forest small allowed.1,
       )
-  node_short limits (join_at column kind type_column type_name limit node) mark small allowed value =
+  node_short dialect (join_at column kind type_column type_name limit node) mark small allowed value =
       let front : List ℕ = (((codes "(" ++ join_name kind) ++ codes " ") ++ type_name) ++ codes ": " in
       let head : length (codes "(") ≡ 1 = refl in
       let blank : length (codes " ") ≡ 1 = refl in
@@ -118,23 +126,23 @@ mutual
         length-four (codes "(") (join_name kind) (codes " ") type_name,
         join_name_short kind,
         word_short type_name allowed.0.0,
-        node_short limits node Plain small allowed.2 tt,
-        limit_if_short limit (limit == default_limit) (join_limit_small limits limit small allowed.1),
+        node_short dialect node Plain small allowed.2 tt,
+        limit_if_short limit (limit == default_limit) (join_limit_small dialect limit small allowed.1),
         mark_short mark value,
       )
 
-  forest_short : (limits : Limits) (kind : ListKind) (forest : Forest) → limits.join_limit ≤ 1000000 → AreAllowed limits kind forest
+  forest_short : (dialect : Dialect) (kind : ListKind) (forest : Forest) → dialect.join_limit ≤ 1000000 → AreAllowed dialect kind forest
       → length (operands_text forest) ≤ 200 * operand_nodes forest
-  forest_short limits kind no_operands small allowed = omega arith
-  forest_short limits kind (with_operand node mark others) small allowed =
+  forest_short dialect kind no_operands small allowed = omega arith
+  forest_short dialect kind (with_operand node mark others) small allowed =
       let blank : length (codes " ") ≡ 1 = refl in
       omega (
         arith,
         length-three (codes " ") (node_text node mark) (operands_text others),
-        node_short limits node mark small allowed.1 (mark-value kind mark allowed.0),
-        forest_short limits kind others small allowed.2,
+        node_short dialect node mark small allowed.1 allowed.0.1,
+        forest_short dialect kind others small allowed.2,
       )
 
-pub print_short : (limits : Limits) (tree : Tree) → limits.join_limit ≤ 1000000 → IsAllowed limits tree → node_count tree ≤ 256
+pub print_short : (dialect : Dialect) (tree : Tree) → dialect.join_limit ≤ 1000000 → IsAllowed dialect tree → node_count tree ≤ 256
     → length (node_text tree Plain) < 65536
-print_short limits tree small allowed few = omega (arith, node_short limits tree Plain small allowed tt)
+print_short dialect tree small allowed few = omega (arith, node_short dialect tree Plain small allowed tt)

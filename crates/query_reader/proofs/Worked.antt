@@ -1,6 +1,6 @@
 -- The worked texts, by computation.
 use Rattle.std.proofs.Common.{refl}
-use Rattle.query_reader.specs.Examples.{WorkedFaults, WorkedQueries}
+use Rattle.query_reader.specs.Examples.{WorkedFaults, WorkedFormats, WorkedQueries}
 
 pub worked_faults : WorkedFaults
 worked_faults = record {
@@ -19,5 +19,27 @@ worked_faults = record {
   limit_out_of_range = refl;
 }
 
+pub worked_formats : WorkedFormats
+worked_formats = record {
+  no_weight = refl;
+  no_prefix = refl;
+  no_prefix_inside = refl;
+  no_key = refl;
+  two_stars = refl;
+  count_after_weight = refl;
+  weight_after_no_count = refl;
+  no_count = refl;
+  two_keys = refl;
+}
+
 pub worked_queries : WorkedQueries
-worked_queries = record { bare_term = refl; a_list = refl; a_marked_term = refl; a_join = refl; a_join_without_limit = refl; a_join_under_a_small_limit = refl }
+worked_queries = record {
+  bare_term = refl;
+  a_list = refl;
+  a_marked_term = refl;
+  a_prefix = refl;
+  a_weighed_prefix = refl;
+  a_join = refl;
+  a_join_without_limit = refl;
+  a_join_under_a_small_limit = refl;
+}

@@ -1,5 +1,6 @@
 -- The forms of atoms.
-use Rattle.std.specs.Prelude.{ℕ, Bool, ◌&&◌, List, [], ◌∷◌, Option, Some, None, if◌then◌else◌}
+use Rattle.std.specs.Prelude.{ℕ, Bool, ◌&&◌, ◌==◌, List, [], ◌∷◌, Option, Some, None, is_some, if◌then◌else◌}
+use Rattle.std.specs.Option.{option_and_then, option_or}
 use Rattle.uni_base.specs.Words.{is_word, starts_with_letter}
 use Rattle.uni_base.specs.Numbers.{is_number}
 use Rattle.uni_base.specs.Fields.{cut_at}
@@ -14,33 +15,35 @@ abbrev pub is_empty : List ℕ → Bool
 is_empty [] = Bool.true
 is_empty (c ∷ cs) = Bool.false
 
--- a colon stands between a name and a word, after a name or before a name
-abbrev pub pair_kind : List ℕ → List ℕ → Option TokenKind
-pair_kind head tail =
-    if is_empty head then (if is_name tail then Some kinds.Option else None)
-    else (
-    if is_name head then (if is_empty tail then Some kinds.Prefix else (if is_word tail then Some kinds.Term else None))
-    else None
-    )
+-- the word before a star that ends a text
+abbrev pub before_star : Option (List ℕ × List ℕ) → Option (List ℕ)
+before_star = option_and_then (λ parts. if is_word parts.0 && is_empty parts.1 then Some parts.0 else None)
 
-abbrev pub colon_kind : Option (List ℕ × List ℕ) → Option TokenKind
-colon_kind None = None
-colon_kind (Some parts) = pair_kind parts.0 parts.1
+abbrev pub starred_word : List ℕ → Option (List ℕ)
+starred_word text = before_star (cut_at 42 text)
+
+-- after a term's colon stands a word, in format 2 also a word and a star
+abbrev pub key_kind : ℕ → List ℕ → Option TokenKind
+key_kind format tail =
+    if is_word tail then Some kinds.Term
+    else (if format == 2 && is_some (starred_word tail) then Some kinds.Stem else None)
+
+-- a colon stands after a name, before a name, or between a name and a key
+abbrev pub pair_kind : ℕ → List ℕ → List ℕ → Option TokenKind
+pair_kind format head tail =
+    if is_empty head then (if is_name tail then Some kinds.Option else None)
+    else (if is_name head then (if is_empty tail then Some kinds.Prefix else key_kind format tail) else None)
+
+abbrev pub colon_kind : ℕ → Option (List ℕ × List ℕ) → Option TokenKind
+colon_kind format = option_and_then (λ parts. pair_kind format parts.0 parts.1)
 
 -- a slash stands between two numbers
 abbrev pub slash_kind : Option (List ℕ × List ℕ) → Option TokenKind
-slash_kind None = None
-slash_kind (Some parts) = if is_number parts.0 && is_number parts.1 then Some kinds.Fraction else None
+slash_kind = option_and_then (λ parts. if is_number parts.0 && is_number parts.1 then Some kinds.Fraction else None)
 
-abbrev pub or_else : Option TokenKind → Option TokenKind → Option TokenKind
-or_else None other = other
-or_else (Some kind) other = Some kind
-
--- what an atom is, if it is in one of the forms
-abbrev pub atom_kind : List ℕ → Option TokenKind
-atom_kind atom =
+-- what an atom is, if it is in one of the forms of a format
+abbrev pub atom_kind : ℕ → List ℕ → Option TokenKind
+atom_kind format atom =
     if is_name atom then Some kinds.Name
-    else (
-    if is_number atom then Some kinds.Number
-    else or_else (colon_kind (cut_at 58 atom)) (slash_kind (cut_at 47 atom))
-    )
+    else (if is_number atom then Some kinds.Number
+    else option_or (colon_kind format (cut_at 58 atom)) (slash_kind (cut_at 47 atom)))

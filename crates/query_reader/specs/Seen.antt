@@ -14,7 +14,7 @@ use Rattle.query_reader.specs.Reading.{Lexeme, Refused, Part, operator_due, term
 abbrev pub part_of : code_part.Part → Part
 part_of parts.OperatorDue = operator_due
 part_of parts.TermDue = term_due
-part_of (parts.TermRead node) = term_read node.column node.type_name node.key
+part_of (parts.TermRead kind node) = term_read node.column kind node.type_name node.key
 part_of (parts.Operands kind operands) = operands_read kind (operands_of operands.items)
 part_of (parts.PrefixDue join) = prefix_due join
 part_of (parts.NodeDue join prefix) = node_due join prefix.column prefix.name

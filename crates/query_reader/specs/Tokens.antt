@@ -32,9 +32,10 @@ pieces at zero (c ∷ cs) =
     else record { from = at; bytes = front (c ∷ cs) } ∷ pieces (at + 1) (length (front (c ∷ cs)) - 1) cs
 
 -- a parenthesis, or an atom by its form
-abbrev pub kind_of : List ℕ → Option TokenKind
-kind_of [] = None
-kind_of (c ∷ cs) = if c == 40 then Some Left else (if c == 41 then Some Right else atom_kind (c ∷ cs))
+abbrev pub kind_of : ℕ → List ℕ → Option TokenKind
+kind_of format [] = None
+kind_of format (c ∷ cs) =
+    if c == 40 then Some Left else (if c == 41 then Some Right else atom_kind format (c ∷ cs))
 
 abbrev pub token_of : Piece → TokenKind → Token
 token_of piece kind = record { from = piece.from; to = piece.from + length piece.bytes; kind = kind }
@@ -45,10 +46,10 @@ with_piece piece None others = Err (piece.from + 1)
 with_piece piece (Some kind) (Ok others) = Ok (token_of piece kind ∷ others)
 with_piece piece (Some kind) (Err column) = Err column
 
-abbrev pub tokens_of : List Piece → Result (List Token) ℕ
-tokens_of [] = Ok []
-tokens_of (piece ∷ others) = with_piece piece (kind_of piece.bytes) (tokens_of others)
+abbrev pub tokens_of : ℕ → List Piece → Result (List Token) ℕ
+tokens_of format [] = Ok []
+tokens_of format (piece ∷ others) = with_piece piece (kind_of format piece.bytes) (tokens_of format others)
 
--- the tokens of a text, or the column of its first piece that is in no form
-abbrev pub text_tokens : List ℕ → Result (List Token) ℕ
-text_tokens text = tokens_of (pieces 0 0 text)
+-- the tokens of a text in a format, or the column of its first piece that is in no form
+abbrev pub text_tokens : ℕ → List ℕ → Result (List Token) ℕ
+text_tokens format text = tokens_of format (pieces 0 0 text)

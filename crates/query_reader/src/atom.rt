@@ -1,13 +1,13 @@
 ghost use Rattle.std.specs.Prelude.{◌≡◌};
 ghost use Rattle.uni_base.specs.Numbers.{is_number};
-ghost use Rattle.query_reader.specs.Atoms.{atom_kind, colon_kind, is_name, pair_kind};
+ghost use Rattle.query_reader.specs.Atoms.{atom_kind, is_name, key_kind, pair_kind, starred_word};
 
 use crate::token::TokenKind;
 use uni_base::{Word, cut_at, read_number};
 
-/// What an atom is, if it is in one of the forms.
-pub fn atom_kind(atom: &[u8]) -> Option<TokenKind>
-    ensures { result ≡ atom_kind atom.now }
+/// What an atom is, if it is in one of the forms of a format.
+pub(crate) fn atom_kind(format: u32, atom: &[u8]) -> Option<TokenKind>
+    ensures { result ≡ atom_kind format atom.now }
 {
     if is_name(atom) {
         return Some(TokenKind::Name);
@@ -16,7 +16,7 @@ pub fn atom_kind(atom: &[u8]) -> Option<TokenKind>
         return Some(TokenKind::Number);
     }
     if let Some((head, tail)) = cut_at(atom, b':') {
-        if let Some(kind) = pair_kind(head, tail) {
+        if let Some(kind) = pair_kind(format, head, tail) {
             return Some(kind);
         }
     }
@@ -28,8 +28,9 @@ pub fn atom_kind(atom: &[u8]) -> Option<TokenKind>
     }
 }
 
-fn pair_kind(head: &[u8], tail: &[u8]) -> Option<TokenKind>
-    ensures { result ≡ pair_kind head.now tail.now }
+// What the parts at an atom's colon make of it.
+fn pair_kind(format: u32, head: &[u8], tail: &[u8]) -> Option<TokenKind>
+    ensures { result ≡ pair_kind format head.now tail.now }
 {
     if head.is_empty() {
         if is_name(tail) {
@@ -41,11 +42,33 @@ fn pair_kind(head: &[u8], tail: &[u8]) -> Option<TokenKind>
         None
     } else if tail.is_empty() {
         Some(TokenKind::Prefix)
-    } else if Word::read(tail).is_some() {
+    } else {
+        key_kind(format, tail)
+    }
+}
+
+// What the key after a name and a colon makes of them.
+fn key_kind(format: u32, tail: &[u8]) -> Option<TokenKind>
+    ensures { result ≡ key_kind format tail.now }
+{
+    if Word::read(tail).is_some() {
         Some(TokenKind::Term)
+    } else if format == 2 && read_starred(tail).is_some() {
+        Some(TokenKind::Stem)
     } else {
         None
     }
+}
+
+/// The word before a star that ends a text.
+pub(crate) fn read_starred(text: &[u8]) -> Option<Word>
+    ensures { result ≡ starred_word text.now }
+{
+    let (word, rest) = cut_at(text, b'*')?;
+    if !rest.is_empty() {
+        return None;
+    }
+    Word::read(word)
 }
 
 fn is_name(text: &[u8]) -> bool

@@ -1,10 +1,16 @@
 //! Worked texts with their queries and faults, each the contract of a function that does nothing.
-ghost use Rattle.query_reader.specs.Examples.{WorkedFaults, WorkedQueries};
+ghost use Rattle.query_reader.specs.Examples.{WorkedFaults, WorkedFormats, WorkedQueries};
 
 /// First faults, from `(and friend:1 Rome)` on.
 #[tactic(auto, using(crate::proofs::Worked::worked_faults))]
 pub fn worked_faults()
     ensures { WorkedFaults }
+{}
+
+/// First faults by which the formats differ, and some that both have.
+#[tactic(auto, using(crate::proofs::Worked::worked_formats))]
+pub fn worked_formats()
+    ensures { WorkedFormats }
 {}
 
 /// Queries with their columns, from `friend:1` on.

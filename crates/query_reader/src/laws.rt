@@ -1,6 +1,7 @@
 //! Laws about definitions, each the contract of a function that does nothing.
 ghost use Rattle.query_reader.specs.FirstFault.{FaultIsFirst};
 ghost use Rattle.query_reader.specs.PrintLaws.{PrintIsRead};
+ghost use Rattle.query_reader.specs.Spans.{TokensAreRuns};
 ghost use Rattle.query_reader.specs.TextLaws.{SpelledIsWithin, OneQueryOrFault};
 
 /// Every text has exactly one query or exactly one fault, and never both.
@@ -9,19 +10,26 @@ pub fn one_query_or_fault()
     ensures { OneQueryOrFault }
 {}
 
+/// The tokens of a text are its atoms, each as long as it goes, and its parentheses; the fault of a
+/// text with an atom in no form stands at the first one.
+#[tactic(auto, using(crate::proofs::Runs::tokens_are_runs))]
+pub fn tokens_are_runs()
+    ensures { TokensAreRuns }
+{}
+
 /// The first fault stands where no query goes on, though one begins with what stands before it.
 #[tactic(auto, using(crate::proofs::FirstFault::fault_is_first))]
 pub fn fault_is_first()
     ensures { FaultIsFirst }
 {}
 
-/// What a text spells is within the limits: its names, its options, its size and its depth.
+/// What a text spells is within the dialect: its names, its options, its size and its depth.
 #[tactic(auto, using(crate::proofs::SpelledWithin::spelled_is_within))]
 pub fn spelled_is_within()
     ensures { SpelledIsWithin }
 {}
 
-/// The print of a query within the limits is read as that query, equal but for columns.
+/// The print of a query within a dialect is read as that query, equal but for columns.
 #[tactic(auto, using(crate::proofs::PrintRead::print_read))]
 pub fn print_is_read()
     ensures { PrintIsRead }

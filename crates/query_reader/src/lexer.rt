@@ -2,7 +2,8 @@ ghost use Rattle.std.specs.Prelude.{◌≡◌, ◌+◌, ◌-◌, ◌<◌, ◌^�
 ghost use Rattle.std.specs.List.{take_while};
 ghost use Rattle.query_reader.specs.Spans.{AreTokensOf};
 ghost use Rattle.query_reader.specs.Tokens.{front, is_atom_byte, kind_of, text_tokens};
-ghost use Rattle.query_reader.specs.Refusals.{AddsPiece, IsPieceFault, IsTokenFault};
+ghost use Rattle.query_reader.specs.Refusals.{AddsPiece, IsPieceFault, IsReadFault, IsTokenFault};
+ghost use Rattle.query_tree.specs.Dialects.{IsFormat};
 
 use crate::atom::atom_kind;
 use crate::fault::BAD_TOKEN;
@@ -10,11 +11,27 @@ use crate::token::{Token, TokenKind, TokenList};
 use query_tree::QueryRefusal;
 use std::alloc::Global;
 
-/// Cuts a text into its tokens.
-pub fn tokens(alloc: Global, text: &[u8]) -> Result<TokenList, QueryRefusal>
+/// Cuts a text into its tokens. The format is 1 or 2.
+pub fn tokens(alloc: Global, format: u32, text: &[u8]) -> Result<TokenList, QueryRefusal>
+    requires format { IsFormat format }
     requires short { length text.now < 2 ^ 32 - 1 }
-    ensures exact { MatchResult result (λ tokens. text_tokens text.now ≡ Ok tokens) (IsTokenFault (text_tokens text.now)) }
-    ensures spans { IfOk result (AreTokensOf 0 text.now) }
+    // The tokens are the text's, and the fault stands at the first atom that is in no form.
+    ensures exact { MatchResult result (AreTokensOf format text.now) (IsTokenFault format text.now) }
+
+    // The same from the left.
+    ensures reading { MatchResult result
+        (λ tokens. text_tokens format text.now ≡ Ok tokens)
+        (IsReadFault (text_tokens format text.now)) }
+{
+    scan(alloc, format, text)
+}
+
+// Goes through a text from the left.
+fn scan(alloc: Global, format: u32, text: &[u8]) -> Result<TokenList, QueryRefusal>
+    requires { length text.now < 2 ^ 32 - 1 }
+    ensures { MatchResult result
+        (λ tokens. text_tokens format text.now ≡ Ok tokens)
+        (IsReadFault (text_tokens format text.now)) }
 {
     let mut tokens = TokenList::new(alloc);
     let mut at = 0;
@@ -22,7 +39,7 @@ pub fn tokens(alloc: Global, text: &[u8]) -> Result<TokenList, QueryRefusal>
     while !rest.is_empty() {
         let (piece, others) = cut_front(rest);
         if rest[0] != b' ' {
-            keep(&mut tokens, at, piece)?;
+            keep(&mut tokens, format, at, piece)?;
         }
         at += piece.len() as u32;
         rest = others;
@@ -30,13 +47,13 @@ pub fn tokens(alloc: Global, text: &[u8]) -> Result<TokenList, QueryRefusal>
     Ok(tokens)
 }
 
-/// Adds a piece as a token, if it is in a form.
-fn keep(tokens: &mut TokenList, at: u32, piece: &[u8]) -> Result<(), QueryRefusal>
+// Adds a piece as a token, if it is in a form.
+fn keep(tokens: &mut TokenList, format: u32, at: u32, piece: &[u8]) -> Result<(), QueryRefusal>
     requires fits { at + length piece.now < 2 ^ 32 - 1 }
-    ensures ok { OnOk result (AddsPiece tokens.old tokens.new (record { from = at; bytes = piece.now })) }
-    ensures fault { IfErr result (IsPieceFault at piece.now) }
+    ensures ok { OnOk result (AddsPiece format tokens.old tokens.new (record { from = at; bytes = piece.now })) }
+    ensures fault { IfErr result (IsPieceFault format at piece.now) }
 {
-    let Some(kind) = piece_kind(piece) else {
+    let Some(kind) = piece_kind(format, piece) else {
         return Err(QueryRefusal::Fault {
             code: BAD_TOKEN,
             column: at + 1,
@@ -53,7 +70,7 @@ fn keep(tokens: &mut TokenList, at: u32, piece: &[u8]) -> Result<(), QueryRefusa
     }
 }
 
-/// Cuts off what a text begins with: the longest run of an atom's bytes, or else its first byte.
+// Cuts off what a text begins with: the longest run of an atom's bytes, or else its first byte.
 fn cut_front(text: &[u8]) -> (&[u8], &[u8])
     requires { 0 < length text.now }
     ensures front { result.0.now ≡ front text.now }
@@ -63,7 +80,7 @@ fn cut_front(text: &[u8]) -> (&[u8], &[u8])
     text.split_at(run.max(1))
 }
 
-/// How many bytes of an atom a text begins with.
+// How many bytes of an atom a text begins with.
 fn run_len(text: &[u8]) -> usize
     ensures { result ≡ length (take_while is_atom_byte text.now) }
 {
@@ -76,12 +93,13 @@ fn is_atom_byte(byte: u8) -> bool
     !matches!(byte, b' ' | b'(' | b')')
 }
 
-fn piece_kind(piece: &[u8]) -> Option<TokenKind>
-    ensures { result ≡ kind_of piece.now }
+// A parenthesis, or an atom by its form.
+fn piece_kind(format: u32, piece: &[u8]) -> Option<TokenKind>
+    ensures { result ≡ kind_of format piece.now }
 {
     match piece.first()? {
         b'(' => Some(TokenKind::Left),
         b')' => Some(TokenKind::Right),
-        _ => atom_kind(piece),
+        _ => atom_kind(format, piece),
     }
 }

@@ -1,10 +1,10 @@
 use crate::value::OptionName;
-use query_tree::{JoinKind, ListKind, Mark, Operand, Query, TermNode};
+use query_tree::{JoinKind, ListKind, Mark, Operand, Query, TermKind, TermNode};
 use uni_base::Word;
 
 /// Which of a list's options were read: a value is due after a name.
 #[derive(Clone, Copy, Debug, PartialEq, Eq)]
-pub enum Tail {
+pub(crate) enum Tail {
     NoOption,
     ValueDue(OptionName),
     OptionRead,
@@ -12,17 +12,17 @@ pub enum Tail {
 
 /// A join's type, with its column.
 #[derive(Clone, Copy, Debug, PartialEq, Eq)]
-pub struct Prefix {
+pub(crate) struct Prefix {
     pub column: u32,
     pub name: Word,
 }
 
 /// What an open list has so far, and what it waits for.
 #[derive(Drop)]
-pub enum Part {
+pub(crate) enum Part {
     OperatorDue,
     TermDue,
-    TermRead(TermNode),
+    TermRead(TermKind, TermNode),
     Operands(ListKind, Vec<Operand>),
     PrefixDue(JoinKind),
     NodeDue(JoinKind, Prefix),
@@ -31,7 +31,7 @@ pub enum Part {
 
 /// A list whose parenthesis is open.
 #[derive(Drop)]
-pub struct OpenList {
+pub(crate) struct OpenList {
     pub column: u32,
     pub part: Part,
     pub mark: Mark,

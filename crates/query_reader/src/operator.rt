@@ -5,14 +5,14 @@ use query_tree::{JoinKind, ListKind};
 
 /// What a name after an open parenthesis may be.
 #[derive(Clone, Copy, Debug, PartialEq, Eq)]
-pub enum Operator {
+pub(crate) enum Operator {
     Term,
     List(ListKind),
     Join(JoinKind),
 }
 
 /// The operator of a name.
-pub fn read_operator(name: &[u8]) -> Option<Operator>
+pub(crate) fn read_operator(name: &[u8]) -> Option<Operator>
     ensures { result ≡ operator_of name.now }
 {
     if name == "term".as_bytes() {

@@ -1,26 +1,27 @@
 ghost use Rattle.std.specs.Prelude.{◌≡◌, ◌<◌, ◌^◌, length};
-ghost use Rattle.query_reader.specs.Reading.{after_option, end_token, hits_value, is_join, is_plain, limit_value, may_take, option_token, parent_kind, value_token, weight_value, with_limit, with_mark};
+ghost use Rattle.query_reader.specs.Reading.{after_option, end_token, is_join, limit_value, mark_value, may_take, option_token, parent_kind, value_token, with_limit, with_mark};
 ghost use Rattle.query_reader.specs.Seen.{IsStep, all_open, open_of, part_of, token_of};
 
 use crate::fault::{BAD_OPTION, BAD_TOKEN, OPERAND_COUNT};
 use crate::open_list::{OpenList, Part, Tail};
 use crate::reader::{Lexeme, State, close, refused, within};
 use crate::token::TokenKind;
-use crate::value::{OptionName, number_within, read_hits, read_option, read_weight};
-use query_tree::{ListKind, Mark, QueryRefusal};
-use uni_base::Limits;
+use crate::value::{OptionName, read_hits, read_option, read_weight};
+use query_tree::{Dialect, ListKind, Mark, MarkKind, QueryRefusal};
+use uni_base::read_between;
 
 /// Reads an option's name.
-pub fn option_token(
+pub(crate) fn option_token(
+    dialect: &Dialect,
     list: OpenList,
     lists: Vec<OpenList>,
     nodes: u64,
     token: &Lexeme<'_>,
 ) -> Result<State, QueryRefusal>
-    ensures { IsStep (option_token (open_of list) (all_open lists.items) nodes (token_of token.now)) result }
+    ensures { IsStep (option_token dialect.now (open_of list) (all_open lists.items) nodes (token_of token.now)) result }
 {
     match read_option(token.bytes) {
-        Some(name) if may_take(name, &list, parent_kind(&lists)) => {
+        Some(name) if may_take(dialect.format, name, &list, parent_kind(&lists)) => {
             let mut list = list;
             list.tail = Tail::ValueDue(name);
             within(lists, list, nodes)
@@ -29,13 +30,16 @@ pub fn option_token(
     }
 }
 
-fn may_take(name: OptionName, list: &OpenList, parent: Option<ListKind>) -> bool
-    ensures { result ≡ may_take name (open_of list.now) parent }
+// A limit may stand once in a join, a mark once in an operand of a list that takes it.
+fn may_take(format: u32, name: OptionName, list: &OpenList, parent: Option<ListKind>) -> bool
+    ensures { result ≡ may_take format name (open_of list.now) parent }
 {
-    match name {
-        OptionName::Limit => is_join(&list.part) && list.limit.is_none(),
-        OptionName::Hits => parent == Some(ListKind::WeakAnd) && list.mark == Mark::Plain,
-        OptionName::Weight => parent == Some(ListKind::StrongOr) && list.mark == Mark::Plain,
+    match (name, parent) {
+        (OptionName::Limit, _) => is_join(&list.part) && list.limit.is_none(),
+        (OptionName::Mark(kind), Some(operator)) => {
+            operator.may_mark(format, kind) && list.mark == Mark::Plain
+        }
+        (OptionName::Mark(_), None) => false,
     }
 }
 
@@ -45,7 +49,7 @@ fn is_join(part: &Part) -> bool
     matches!(part, Part::NodeRead(_, _, _))
 }
 
-/// The operator of the innermost list, if it is one over operands.
+// The operator of the innermost list, if it is one over operands.
 fn parent_kind(lists: &Vec<OpenList>) -> Option<ListKind>
     ensures { result ≡ parent_kind (all_open lists.now.items) }
 {
@@ -59,50 +63,42 @@ fn parent_kind(lists: &Vec<OpenList>) -> Option<ListKind>
 }
 
 /// Reads an option's value.
-pub fn value_token(
-    limits: &Limits,
+pub(crate) fn value_token(
+    dialect: &Dialect,
     list: OpenList,
     lists: Vec<OpenList>,
     nodes: u64,
     token: &Lexeme<'_>,
     name: OptionName,
 ) -> Result<State, QueryRefusal>
-    requires { limits.now.join_limit < 2 ^ 32 }
-    ensures { IsStep (value_token limits.now (open_of list) (all_open lists.items) nodes (token_of token.now) name) result }
+    requires { dialect.now.join_limit < 2 ^ 32 }
+    ensures { IsStep (value_token dialect.now (open_of list) (all_open lists.items) nodes (token_of token.now) name) result }
 {
     match name {
-        OptionName::Limit => with_limit(list, lists, nodes, token, limit_value(limits, token)),
-        OptionName::Hits => with_mark(list, lists, nodes, token, hits_value(token)),
-        OptionName::Weight => with_mark(list, lists, nodes, token, weight_value(token)),
+        OptionName::Limit => with_limit(list, lists, nodes, token, limit_value(dialect, token)),
+        OptionName::Mark(kind) => with_mark(list, lists, nodes, token, mark_value(kind, token)),
     }
 }
 
-/// The greatest number of hits that a join follows, if the token says one.
-fn limit_value(limits: &Limits, token: &Lexeme<'_>) -> Option<u32>
-    requires { limits.now.join_limit < 2 ^ 32 }
-    ensures { result ≡ limit_value limits.now (token_of token.now) token.now.kind }
+// The greatest number of hits that a join follows, if the token says one.
+fn limit_value(dialect: &Dialect, token: &Lexeme<'_>) -> Option<u32>
+    requires { dialect.now.join_limit < 2 ^ 32 }
+    ensures { result ≡ limit_value dialect.now (token_of token.now) token.now.kind }
 {
     if token.kind != TokenKind::Number {
         return None;
     }
-    let limit = number_within(token.bytes, 1, limits.join_limit)?;
+    let limit = read_between(token.bytes, 1, dialect.join_limit)?;
     Some(limit as u32)
 }
 
-fn hits_value(token: &Lexeme<'_>) -> Option<Mark>
-    ensures { result ≡ hits_value (token_of token.now) token.now.kind }
+// The mark that an option's value says.
+fn mark_value(kind: MarkKind, token: &Lexeme<'_>) -> Option<Mark>
+    ensures { result ≡ mark_value kind (token_of token.now) token.now.kind }
 {
-    match token.kind {
-        TokenKind::Number => read_hits(token.bytes),
-        _ => None,
-    }
-}
-
-fn weight_value(token: &Lexeme<'_>) -> Option<Mark>
-    ensures { result ≡ weight_value (token_of token.now) token.now.kind }
-{
-    match token.kind {
-        TokenKind::Fraction => read_weight(token.bytes),
+    match (kind, token.kind) {
+        (MarkKind::Hits, TokenKind::Number) => read_hits(token.bytes),
+        (MarkKind::Weight, TokenKind::Fraction) => read_weight(token.bytes),
         _ => None,
     }
 }
@@ -146,36 +142,36 @@ fn with_mark(
 }
 
 /// Reads what stands where a list may end.
-pub fn end_token(
-    limits: &Limits,
+pub(crate) fn end_token(
+    dialect: &Dialect,
     list: OpenList,
     lists: Vec<OpenList>,
     nodes: u64,
     token: &Lexeme<'_>,
 ) -> Result<State, QueryRefusal>
-    ensures { IsStep (end_token limits.now (open_of list) (all_open lists.items) nodes (token_of token.now) token.now.kind) result }
+    ensures { IsStep (end_token dialect.now (open_of list) (all_open lists.items) nodes (token_of token.now) token.now.kind) result }
 {
     match token.kind {
-        TokenKind::Right => close(limits, list, lists, nodes, token),
-        TokenKind::Option => option_token(list, lists, nodes, token),
-        TokenKind::Left | TokenKind::Term => refused(OPERAND_COUNT, token),
+        TokenKind::Right => close(dialect, list, lists, nodes, token),
+        TokenKind::Option => option_token(dialect, list, lists, nodes, token),
+        TokenKind::Left | TokenKind::Term | TokenKind::Stem => { refused(OPERAND_COUNT, token) }
         _ => refused(BAD_TOKEN, token),
     }
 }
 
 /// Reads what stands after an option and its value.
-pub fn after_option(
-    limits: &Limits,
+pub(crate) fn after_option(
+    dialect: &Dialect,
     list: OpenList,
     lists: Vec<OpenList>,
     nodes: u64,
     token: &Lexeme<'_>,
 ) -> Result<State, QueryRefusal>
-    ensures { IsStep (after_option limits.now (open_of list) (all_open lists.items) nodes (token_of token.now) token.now.kind) result }
+    ensures { IsStep (after_option dialect.now (open_of list) (all_open lists.items) nodes (token_of token.now) token.now.kind) result }
 {
     match token.kind {
-        TokenKind::Right => close(limits, list, lists, nodes, token),
-        TokenKind::Option => option_token(list, lists, nodes, token),
+        TokenKind::Right => close(dialect, list, lists, nodes, token),
+        TokenKind::Option => option_token(dialect, list, lists, nodes, token),
         _ => refused(BAD_OPTION, token),
     }
 }

@@ -1,6 +1,6 @@
 ghost use Rattle.std.specs.Prelude.{◌≡◌};
 ghost use Rattle.query_tree.specs.Tree.{operands_of};
-ghost use Rattle.query_reader.specs.Reading.{first_part, least_operands, most_operands, operands_token, operator_token, prefix_token, term_token, with_part};
+ghost use Rattle.query_reader.specs.Reading.{first_part, least_operands, most_operands, operands_token, operator_token, pair_of, prefix_token, term_found, term_token, with_part};
 ghost use Rattle.query_reader.specs.Seen.{IsStep, all_open, open_of, part_of, token_of};
 
 use crate::fault::{BAD_TOKEN, OPERAND_COUNT, UNKNOWN_OPERATOR};
@@ -10,9 +10,8 @@ use crate::operator::{Operator, read_operator};
 use crate::options::option_token;
 use crate::reader::{Lexeme, State, close, refused, with_list, within};
 use crate::token::TokenKind;
-use query_tree::{JoinKind, ListKind, QueryRefusal, TermNode};
+use query_tree::{Dialect, JoinKind, ListKind, QueryRefusal, TermKind, TermNode};
 use std::alloc::Global;
-use uni_base::Limits;
 
 fn with_part(
     mut list: OpenList,
@@ -37,7 +36,7 @@ fn first_part(alloc: Global, operator: Operator) -> Part
 }
 
 /// Reads an operator's name.
-pub fn operator_token(
+pub(crate) fn operator_token(
     list: OpenList,
     lists: Vec<OpenList>,
     nodes: u64,
@@ -58,7 +57,7 @@ pub fn operator_token(
 }
 
 /// Reads the atom of a term in parentheses.
-pub fn term_token(
+pub(crate) fn term_token(
     list: OpenList,
     lists: Vec<OpenList>,
     nodes: u64,
@@ -67,24 +66,40 @@ pub fn term_token(
     ensures { IsStep (term_token (open_of list) (all_open lists.items) nodes (token_of token.now) token.now.kind) result }
 {
     match token.kind {
-        TokenKind::Term => match read_pair(token.bytes) {
-            Some((type_name, key)) => {
-                let term = TermNode {
-                    column: token.column,
-                    type_name,
-                    key,
-                };
-                with_part(list, lists, nodes, Part::TermRead(term))
-            }
-            None => refused(BAD_TOKEN, token),
-        },
+        TokenKind::Term => read_term(list, lists, nodes, token, TermKind::Whole),
+        TokenKind::Stem => read_term(list, lists, nodes, token, TermKind::Prefix),
         TokenKind::Right => refused(OPERAND_COUNT, token),
         _ => refused(BAD_TOKEN, token),
     }
 }
 
+// Reads the two words of a term.
+fn read_term(
+    list: OpenList,
+    lists: Vec<OpenList>,
+    nodes: u64,
+    token: &Lexeme<'_>,
+    kind: TermKind,
+) -> Result<State, QueryRefusal>
+    ensures { IsStep
+        (term_found (open_of list) (all_open lists.items) nodes (token_of token.now) kind (pair_of kind token.now.bytes.now))
+        result }
+{
+    match read_pair(kind, token.bytes) {
+        Some((type_name, key)) => {
+            let term = TermNode {
+                column: token.column,
+                type_name,
+                key,
+            };
+            with_part(list, lists, nodes, Part::TermRead(kind, term))
+        }
+        None => refused(BAD_TOKEN, token),
+    }
+}
+
 /// Reads a join's prefix.
-pub fn prefix_token(
+pub(crate) fn prefix_token(
     list: OpenList,
     lists: Vec<OpenList>,
     nodes: u64,
@@ -115,18 +130,18 @@ fn least_operands(kind: ListKind) -> u64
     if kind == ListKind::Difference { 2 } else { 1 }
 }
 
-fn most_operands(limits: &Limits, kind: ListKind) -> u64
-    ensures { result ≡ most_operands limits.now kind }
+fn most_operands(dialect: &Dialect, kind: ListKind) -> u64
+    ensures { result ≡ most_operands dialect.now kind }
 {
     match kind {
         ListKind::Difference => 2,
-        _ => limits.operands,
+        _ => dialect.operands,
     }
 }
 
 /// Reads what stands after an operator or an operand; `count` operands were read.
-pub fn operands_token(
-    limits: &Limits,
+pub(crate) fn operands_token(
+    dialect: &Dialect,
     list: OpenList,
     lists: Vec<OpenList>,
     nodes: u64,
@@ -134,25 +149,28 @@ pub fn operands_token(
     kind: ListKind,
     count: u64,
 ) -> Result<State, QueryRefusal>
-    ensures { IsStep (operands_token limits.now (open_of list) (all_open lists.items) nodes (token_of token.now) kind count token.now.kind) result }
+    ensures { IsStep (operands_token dialect.now (open_of list) (all_open lists.items) nodes (token_of token.now) kind count token.now.kind) result }
 {
     match token.kind {
-        TokenKind::Left | TokenKind::Term if count >= most_operands(limits, kind) => {
-            refused(OPERAND_COUNT, token)
-        }
+        TokenKind::Left | TokenKind::Term | TokenKind::Stem
+            if count >= most_operands(dialect, kind) => { refused(OPERAND_COUNT, token) }
         TokenKind::Right | TokenKind::Option if count < least_operands(kind) => {
             refused(OPERAND_COUNT, token)
         }
         TokenKind::Left => {
             let lists = with_list(lists, list)?;
-            begin_list(limits, lists, nodes, token)
+            begin_list(dialect, lists, nodes, token)
         }
         TokenKind::Term => {
             let lists = with_list(lists, list)?;
-            begin_term(limits, lists, nodes, token)
+            begin_term(dialect, lists, nodes, token, TermKind::Whole)
         }
-        TokenKind::Right => close(limits, list, lists, nodes, token),
-        TokenKind::Option => option_token(list, lists, nodes, token),
+        TokenKind::Stem => {
+            let lists = with_list(lists, list)?;
+            begin_term(dialect, lists, nodes, token, TermKind::Prefix)
+        }
+        TokenKind::Right => close(dialect, list, lists, nodes, token),
+        TokenKind::Option => option_token(dialect, list, lists, nodes, token),
         _ => refused(BAD_TOKEN, token),
     }
 }

@@ -7,13 +7,12 @@ ghost use Rattle.query_reader.specs.Seen.{IsStep, all_open, open_of, part_of, to
 use crate::fault::BAD_OPTION;
 use crate::open_list::{OpenList, Part};
 use crate::token::TokenKind;
-use query_tree::{DEFAULT_LIMIT, JoinNode, ListNode, Mark, Operand, Query, QueryRefusal};
+use query_tree::{DEFAULT_LIMIT, Dialect, JoinNode, ListNode, Mark, Operand, Query, QueryRefusal};
 use std::alloc::Global;
-use uni_base::Limits;
 
 /// A token with its column and its bytes.
 #[derive(Clone, Copy)]
-pub struct Lexeme<'a> {
+pub(crate) struct Lexeme<'a> {
     pub column: u32,
     pub kind: TokenKind,
     pub bytes: &'a [u8],
@@ -22,14 +21,14 @@ pub struct Lexeme<'a> {
 /// What was read so far: the open lists, the innermost last; the whole query, once it is read; how
 /// many nodes began.
 #[derive(Drop)]
-pub struct State {
+pub(crate) struct State {
     pub lists: Vec<OpenList>,
     pub whole: Option<Query>,
     pub nodes: u64,
 }
 
 /// The fault of a code at a token.
-pub fn refused(code: u32, token: &Lexeme<'_>) -> Result<State, QueryRefusal>
+pub(crate) fn refused(code: u32, token: &Lexeme<'_>) -> Result<State, QueryRefusal>
     ensures step { IsStep (refuse code (token_of token.now)) result }
     ensures fault { result ≡ Err (QueryRefusal.Fault code token.now.column) }
 {
@@ -40,7 +39,11 @@ pub fn refused(code: u32, token: &Lexeme<'_>) -> Result<State, QueryRefusal>
 }
 
 /// The state with an innermost list.
-pub fn within(lists: Vec<OpenList>, list: OpenList, nodes: u64) -> Result<State, QueryRefusal>
+pub(crate) fn within(
+    lists: Vec<OpenList>,
+    list: OpenList,
+    nodes: u64,
+) -> Result<State, QueryRefusal>
     ensures { IsStep (going_on (open_of list ∷ all_open lists.items) nodes) result }
 {
     let lists = with_list(lists, list)?;
@@ -52,7 +55,10 @@ pub fn within(lists: Vec<OpenList>, list: OpenList, nodes: u64) -> Result<State,
 }
 
 /// The open lists with one more inside them.
-pub fn with_list(mut lists: Vec<OpenList>, list: OpenList) -> Result<Vec<OpenList>, QueryRefusal>
+pub(crate) fn with_list(
+    mut lists: Vec<OpenList>,
+    list: OpenList,
+) -> Result<Vec<OpenList>, QueryRefusal>
     ensures { MatchResult result
         (λ all. all_open all.items ≡ open_of list ∷ all_open lists.items)
         (λ e. e ≡ QueryRefusal.Memory) }
@@ -64,7 +70,7 @@ pub fn with_list(mut lists: Vec<OpenList>, list: OpenList) -> Result<Vec<OpenLis
 }
 
 /// Gives a node that was read to the innermost list; outside of all lists it is the whole query.
-pub fn deliver(
+pub(crate) fn deliver(
     mut lists: Vec<OpenList>,
     nodes: u64,
     node: Query,
@@ -120,7 +126,7 @@ fn part_with_node(part: Part, node: Query, mark: Mark) -> Result<Part, QueryRefu
         Part::NodeDue(join, prefix) => Ok(Part::NodeRead(join, prefix, node)),
         Part::OperatorDue => Ok(Part::OperatorDue),
         Part::TermDue => Ok(Part::TermDue),
-        Part::TermRead(term) => Ok(Part::TermRead(term)),
+        Part::TermRead(kind, term) => Ok(Part::TermRead(kind, term)),
         Part::PrefixDue(join) => Ok(Part::PrefixDue(join)),
         Part::NodeRead(join, prefix, old) => Ok(Part::NodeRead(join, prefix, old)),
     }
@@ -143,25 +149,25 @@ fn with_operand(
 }
 
 /// Ends a list.
-pub fn close(
-    limits: &Limits,
+pub(crate) fn close(
+    dialect: &Dialect,
     list: OpenList,
     lists: Vec<OpenList>,
     nodes: u64,
     token: &Lexeme<'_>,
 ) -> Result<State, QueryRefusal>
-    ensures { IsStep (close limits.now (open_of list) (all_open lists.items) nodes (token_of token.now)) result }
+    ensures { IsStep (close dialect.now (open_of list) (all_open lists.items) nodes (token_of token.now)) result }
 {
     let mark = list.mark;
-    match finished(*lists.allocator(), limits, list)? {
+    match finished(*lists.allocator(), dialect, list)? {
         Some(node) => deliver(lists, nodes, node, mark),
         None => refused(BAD_OPTION, token),
     }
 }
 
-fn finished(alloc: Global, limits: &Limits, list: OpenList) -> Result<Option<Query>, QueryRefusal>
+fn finished(alloc: Global, dialect: &Dialect, list: OpenList) -> Result<Option<Query>, QueryRefusal>
     ensures { MatchResult result
-        (λ node. whole_of node ≡ node_of limits.now (open_of list) (part_of list.part))
+        (λ node. whole_of node ≡ node_of dialect.now (open_of list) (part_of list.part))
         (λ e. e ≡ QueryRefusal.Memory) }
 {
     let OpenList {
@@ -172,7 +178,7 @@ fn finished(alloc: Global, limits: &Limits, list: OpenList) -> Result<Option<Que
         tail: _,
     } = list;
     match part {
-        Part::TermRead(term) => Ok(Some(Query::Term(term))),
+        Part::TermRead(kind, term) => Ok(Some(Query::term(kind, term))),
         Part::Operands(kind, operands) => Ok(Some(Query::list(
             kind,
             ListNode { column, operands },
@@ -188,7 +194,7 @@ fn finished(alloc: Global, limits: &Limits, list: OpenList) -> Result<Option<Que
                     column,
                     type_column: prefix.column,
                     type_name: prefix.name,
-                    limit: limit.unwrap_or(limit_unless_given(limits)),
+                    limit: limit.unwrap_or(limit_unless_given(dialect)),
                     node,
                 },
             )))
@@ -197,9 +203,9 @@ fn finished(alloc: Global, limits: &Limits, list: OpenList) -> Result<Option<Que
     }
 }
 
-/// The limit of a join that is written without one: the default, or the greatest where that is less.
-fn limit_unless_given(limits: &Limits) -> u32
-    ensures { result ≡ limit_unless_given limits.now }
+// The limit of a join that is written without one: the default, or the greatest where that is less.
+fn limit_unless_given(dialect: &Dialect) -> u32
+    ensures { result ≡ limit_unless_given dialect.now }
 {
-    limits.join_limit.min(DEFAULT_LIMIT as u64) as u32
+    dialect.join_limit.min(DEFAULT_LIMIT as u64) as u32
 }

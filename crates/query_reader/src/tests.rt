@@ -1,3 +1,4 @@
+ghost use Rattle.query_tree.specs.Dialects.{IsFormat};
 ghost use Rattle.uni_base.specs.StandardLimits.{IsWithinStandard};
 
 use crate::{TokenKind, read_query, tokens};
@@ -35,8 +36,8 @@ static REFUSED: [(&str, u64, u32, u32); 13] = [
     ("(or friend:1 friend:2 friend:3)", 3, 38, 23),
 ];
 
-/// More texts, under the standard limits.
-static FAULTS: [(&str, u32, u32); 46] = [
+/// More texts, under the standard limits, with the same fault in both formats.
+static FAULTS: [(&str, u32, u32); 45] = [
     ("   ", 32, 4),
     ("\u{e9}", 31, 1),
     ("(and friend:\u{e9} a:1)", 31, 6),
@@ -76,7 +77,6 @@ static FAULTS: [(&str, u32, u32); 46] = [
     ("(apply a: b:1 :optional-hits 5)", 36, 15),
     ("(apply a: b:1 :unknown 5)", 36, 15),
     ("(weak-and (term a:1 :optional-hits 1000001) b:1)", 36, 36),
-    ("(weak-and (term a:1 :optional-weight 1/2) b:1)", 36, 21),
     ("(strong-or (term a:1 :optional-weight 0/1) b:1)", 36, 39),
     ("(strong-or (term a:1 :optional-weight 2/1) b:1)", 36, 39),
     ("(strong-or (term a:1 :optional-weight 1/1001) b:1)", 36, 39),
@@ -89,8 +89,45 @@ static FAULTS: [(&str, u32, u32); 46] = [
     ),
 ];
 
-/// Texts with the prints of their queries.
-static QUERIES: [(&str, &str); 21] = [
+/// Texts that one format refuses: the format, and the fault there.
+static FORMATS: [(u32, &str, u32, u32); 18] = [
+    (
+        1,
+        "(weak-and (term friend:1 :optional-weight 1/2) lives:rome)",
+        36,
+        26,
+    ),
+    (1, "lives:rom*", 31, 1),
+    (1, "(and friend:1 (term lives:rom*))", 31, 21),
+    (2, "lives:*", 31, 1),
+    (2, "lives:rom**", 31, 1),
+    (2, "lives:rom*a", 31, 1),
+    (2, "lives*", 31, 1),
+    (2, "Lives:rom*", 31, 1),
+    (2, "lives:aaaaaaaaaaaaaaaaaaaaaaaaaaaaaaaaa*", 31, 1),
+    (2, "(apply lives:rom* friend:1)", 31, 8),
+    (2, "(term lives:rom* lives:os*)", 35, 18),
+    (2, "(difference a:1 b:1 c:1*)", 35, 21),
+    (2, "(apply friend: a:1* b:1*)", 35, 21),
+    (2, "lives:rom* lives:rom*", 33, 12),
+    (
+        2,
+        "(weak-and (term a:1 :optional-weight 1/2 :optional-hits 1))",
+        36,
+        42,
+    ),
+    (
+        2,
+        "(weak-and (term a:1 :optional-hits 0 :optional-weight 1/2))",
+        36,
+        38,
+    ),
+    (2, "(weak-and (term a:1* :optional-weight 3/2))", 36, 39),
+    (2, "(strong-or (term a:1* :optional-hits 1))", 36, 23),
+];
+
+/// Texts with the prints of their queries in both formats.
+static QUERIES: [(&str, &str); 22] = [
     ("friend:1", "friend:1"),
     ("  friend:1  ", "friend:1"),
     ("(term friend:1)", "friend:1"),
@@ -149,8 +186,35 @@ static QUERIES: [(&str, &str); 21] = [
         "(and (weak-and (term friend:1 :optional-hits 1) lives:rome) (or lives:oslo))",
         "(and (weak-and (term friend:1 :optional-hits 1) lives:rome) (or lives:oslo))",
     ),
+    (
+        "(difference friend:1 (apply tagged: friend:1 :limit 1))",
+        "(difference friend:1 (apply tagged: friend:1 :limit 1))",
+    ),
     ("(or term:and or:1)", "(or term:and or:1)"),
     ("(apply x: (term a:-_9))", "(apply x: a:-_9)"),
+];
+
+/// Texts with the prints of their queries in format 2; the last has each operator, option and leaf once.
+static QUERIES_2: [(&str, &str); 7] = [
+    ("lives:rom*", "lives:rom*"),
+    ("(term lives:os*)", "lives:os*"),
+    ("friend:1*", "friend:1*"),
+    (
+        "(weak-and (term friend:1 :optional-weight 1/2) lives:rome)",
+        "(weak-and (term friend:1 :optional-weight 1/2) lives:rome)",
+    ),
+    (
+        "(weak-and (term friend:1 :optional-weight 2/3) lives:rome)",
+        "(weak-and (term friend:1 :optional-weight 2/3) lives:rome)",
+    ),
+    (
+        "(weak-and (term friend:1 :optional-weight 1/1) (or lives:r* :optional-hits 2))",
+        "(weak-and (term friend:1 :optional-weight 1/1) (or lives:r* :optional-hits 2))",
+    ),
+    (
+        "(and (or friend:1) (difference lives:rom* friend:2) (weak-and (term friend:3 :optional-hits 1) (term lives:o* :optional-weight 1/2)) (strong-or (apply friend: friend:4 :limit 7 :optional-weight 2/3) (extract shows: tagged:5)))",
+        "(and (or friend:1) (difference lives:rom* friend:2) (weak-and (term friend:3 :optional-hits 1) (term lives:o* :optional-weight 1/2)) (strong-or (apply friend: friend:4 :limit 7 :optional-weight 2/3) (extract shows: tagged:5)))",
+    ),
 ];
 
 /// The fault of a text, or none.
@@ -158,12 +222,14 @@ fn fault(
     rt: &impl Abort,
     alloc: Global,
     limits: &Limits,
+    format: u32,
     text: &[u8],
 ) -> Result<Option<(u32, u32)>, Fail>
-    requires { IsWithinStandard limits.now }
+    requires limits { IsWithinStandard limits.now }
+    requires format { IsFormat format }
 {
     assert!(rt; text.len() < 1_000_000);
-    match read_query(alloc, limits, text) {
+    match read_query(alloc, limits, format, text) {
         Ok(_) => Ok(None),
         Err(QueryRefusal::Fault { code, column }) => Ok(Some((code, column))),
         Err(QueryRefusal::Memory) => Err("memory")?,
@@ -194,7 +260,7 @@ fn refused_texts(rt: HostRuntime) -> Result<(), Fail> {
             nodes: *nodes,
             ..Limits::standard()
         };
-        let found = fault(&rt, rt.alloc(), &limits, text.as_bytes())?;
+        let found = fault(&rt, rt.alloc(), &limits, 1, text.as_bytes())?;
         assert_eq!(rt; found, Some((*code, *column)), "{text}");
     }
     Ok(())
@@ -204,31 +270,63 @@ fn refused_texts(rt: HostRuntime) -> Result<(), Fail> {
 fn faults(rt: HostRuntime) -> Result<(), Fail> {
     let limits = Limits::standard();
     for (text, code, column) in &FAULTS {
-        let found = fault(&rt, rt.alloc(), &limits, text.as_bytes())?;
+        for format in [1, 2] {
+            let found = fault(&rt, rt.alloc(), &limits, format, text.as_bytes())?;
+            assert_eq!(rt; found, Some((*code, *column)), "{text}");
+        }
+    }
+    for (format, text, code, column) in &FORMATS {
+        assert!(rt; *format == 1 || *format == 2);
+        let found = fault(&rt, rt.alloc(), &limits, *format, text.as_bytes())?;
         assert_eq!(rt; found, Some((*code, *column)), "{text}");
     }
     Ok(())
 }
 
 /// The print of a text's query.
-fn print(rt: &impl Abort, alloc: Global, limits: &Limits, text: &[u8]) -> Result<Text, Fail>
-    requires { IsWithinStandard limits.now }
+fn print(
+    rt: &impl Abort,
+    alloc: Global,
+    limits: &Limits,
+    format: u32,
+    text: &[u8],
+) -> Result<Text, Fail>
+    requires limits { IsWithinStandard limits.now }
+    requires format { IsFormat format }
 {
     assert!(rt; text.len() < 1_000_000);
-    match read_query(alloc, limits, text) {
+    match read_query(alloc, limits, format, text) {
         Ok(query) => Ok(print_query(alloc, &query)?),
         Err(_) => Err("no query")?,
     }
 }
 
+/// The text is read, and printed and read again, as the expected text.
+fn reads_again(
+    rt: &impl Abort,
+    alloc: Global,
+    format: u32,
+    text: &str,
+    expected: &str,
+) -> Result<(), Fail>
+    requires { IsFormat format }
+{
+    let limits = Limits::standard();
+    let printed = print(rt, alloc, &limits, format, text.as_bytes())?;
+    assert!(rt; printed.as_slice() == expected.as_bytes(), "{text}");
+    let again = print(rt, alloc, &limits, format, printed.as_slice())?;
+    assert!(rt; again.as_slice() == expected.as_bytes(), "{text}");
+    Ok(())
+}
+
 #[test]
 fn queries(rt: HostRuntime) -> Result<(), Fail> {
-    let limits = Limits::standard();
     for (text, expected) in &QUERIES {
-        let printed = print(&rt, rt.alloc(), &limits, text.as_bytes())?;
-        assert!(rt; printed.as_slice() == expected.as_bytes(), "{text}");
-        let again = print(&rt, rt.alloc(), &limits, printed.as_slice())?;
-        assert!(rt; again.as_slice() == expected.as_bytes(), "{text}");
+        reads_again(&rt, rt.alloc(), 1, text, expected)?;
+        reads_again(&rt, rt.alloc(), 2, text, expected)?;
+    }
+    for (text, expected) in &QUERIES_2 {
+        reads_again(&rt, rt.alloc(), 2, text, expected)?;
     }
     Ok(())
 }
@@ -238,7 +336,10 @@ fn limits_of_a_query(rt: HostRuntime) -> Result<(), Fail> {
     let alloc = rt.alloc();
     let limits = Limits::standard();
     let few = Limits { nodes: 3, ..limits };
-    assert_eq!(rt; fault(&rt, alloc, &few, b"(or friend:1 friend:2)")?, None);
+    assert_eq!(rt;
+        fault(&rt, alloc, &few, 1, b"(or friend:1 friend:2)")?,
+        None
+    );
     let deepest = repeated(
         alloc,
         "",
@@ -246,12 +347,12 @@ fn limits_of_a_query(rt: HostRuntime) -> Result<(), Fail> {
         32,
         "friend:1))))))))))))))))))))))))))))))))",
     )?;
-    assert_eq!(rt; fault(&rt, alloc, &limits, deepest.as_bytes())?, None);
+    assert_eq!(rt; fault(&rt, alloc, &limits, 1, deepest.as_bytes())?, None);
     let most = repeated(alloc, "(or", " a:1", 64, ")")?;
-    assert_eq!(rt; fault(&rt, alloc, &limits, most.as_bytes())?, None);
+    assert_eq!(rt; fault(&rt, alloc, &limits, 1, most.as_bytes())?, None);
     let more = repeated(alloc, "(or", " a:1", 65, ")")?;
     assert_eq!(rt;
-        fault(&rt, alloc, &limits, more.as_bytes())?,
+        fault(&rt, alloc, &limits, 1, more.as_bytes())?,
         Some((35, 261))
     );
     Ok(())
@@ -269,11 +370,11 @@ fn a_small_limit_of_joins(rt: HostRuntime) -> Result<(), Fail> {
         ("(apply a: b:1 :limit 5)", "(apply a: b:1 :limit 5)"),
         ("(apply a: b:1 :limit 4)", "(apply a: b:1 :limit 4)"),
     ] {
-        let printed = print(&rt, rt.alloc(), &few, text.as_bytes())?;
+        let printed = print(&rt, rt.alloc(), &few, 1, text.as_bytes())?;
         assert!(rt; printed.as_slice() == expected.as_bytes(), "{text}");
     }
     let more = b"(apply a: b:1 :limit 6)";
-    assert_eq!(rt; fault(&rt, rt.alloc(), &few, more)?, Some((36, 22)));
+    assert_eq!(rt; fault(&rt, rt.alloc(), &few, 1, more)?, Some((36, 22)));
     Ok(())
 }
 
@@ -284,16 +385,16 @@ fn nodes_of_a_query(rt: HostRuntime) -> Result<(), Fail> {
     let list = repeated(alloc, " (or", " a:1", 63, ")")?;
     let most = repeated(alloc, "(or", list.as_str(), 3, " (or a:1 a:1)")?;
     let most = repeated(alloc, most.as_str(), " a:1", 60, ")")?;
-    assert_eq!(rt; fault(&rt, alloc, &limits, most.as_bytes())?, None);
+    assert_eq!(rt; fault(&rt, alloc, &limits, 1, most.as_bytes())?, None);
     let more = repeated(alloc, "(or", list.as_str(), 3, " (or a:1 a:1 a:1)")?;
     let more = repeated(alloc, more.as_str(), " a:1", 60, ")")?;
     assert_eq!(rt;
-        fault(&rt, alloc, &limits, more.as_bytes())?,
+        fault(&rt, alloc, &limits, 1, more.as_bytes())?,
         Some((38, 1029))
     );
     let more = repeated(alloc, "(or", list.as_str(), 4, ")")?;
     assert_eq!(rt;
-        fault(&rt, alloc, &limits, more.as_bytes())?,
+        fault(&rt, alloc, &limits, 1, more.as_bytes())?,
         Some((38, 1028))
     );
     Ok(())
@@ -305,17 +406,17 @@ fn hostile_texts(rt: HostRuntime) -> Result<(), Fail> {
     let limits = Limits::standard();
     let parentheses = repeated(alloc, "", "(", 60_000, "")?;
     assert_eq!(rt;
-        fault(&rt, alloc, &limits, parentheses.as_bytes())?,
+        fault(&rt, alloc, &limits, 1, parentheses.as_bytes())?,
         Some((34, 2))
     );
     let lists = repeated(alloc, "", "(or ", 10_000, "")?;
     assert_eq!(rt;
-        fault(&rt, alloc, &limits, lists.as_bytes())?,
+        fault(&rt, alloc, &limits, 1, lists.as_bytes())?,
         Some((37, 129))
     );
     let words = repeated(alloc, "", "a", 60_000, "")?;
     assert_eq!(rt;
-        fault(&rt, alloc, &limits, words.as_bytes())?,
+        fault(&rt, alloc, &limits, 1, words.as_bytes())?,
         Some((31, 1))
     );
     Ok(())
@@ -323,7 +424,7 @@ fn hostile_texts(rt: HostRuntime) -> Result<(), Fail> {
 
 #[test]
 fn tokens_of_a_text(rt: HostRuntime) -> Result<(), Fail> {
-    let list = tokens(rt.alloc(), b" (and a: :b 10 1/2)c:d")?;
+    let list = tokens(rt.alloc(), 2, b" (and a: :b 10 1/2)c:d e:f*")?;
     let kinds = [
         (1, 2, TokenKind::Left),
         (2, 5, TokenKind::Name),
@@ -333,8 +434,9 @@ fn tokens_of_a_text(rt: HostRuntime) -> Result<(), Fail> {
         (15, 18, TokenKind::Fraction),
         (18, 19, TokenKind::Right),
         (19, 22, TokenKind::Term),
+        (23, 27, TokenKind::Stem),
     ];
-    assert_eq!(rt; list.len(), 8);
+    assert_eq!(rt; list.len(), 9);
     for (token, (from, to, kind)) in list.as_slice().iter().zip(kinds.iter()) {
         assert!(rt; token.from == *from && token.to == *to && token.kind == *kind);
     }

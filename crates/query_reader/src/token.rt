@@ -9,6 +9,8 @@ pub enum TokenKind {
     Name,
     /// `friend:1`
     Term,
+    /// `friend:1*`, in format 2
+    Stem,
     /// `friend:`
     Prefix,
     /// `:limit`

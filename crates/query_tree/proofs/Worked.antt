@@ -7,6 +7,8 @@ pub worked_queries : WorkedQueries
 unfolding digits
 worked_queries = record {
   a_term = (refl, refl, refl);
+  a_prefix = (refl, refl, refl);
+  a_marked_prefix = (refl, refl, refl);
   a_list = (refl, refl, refl);
   a_difference = (refl, refl, refl);
   a_weak_and = (refl, refl, refl);

@@ -5,6 +5,7 @@ use Rattle.query_tree.specs.declared.query.Mark.TheVariants.{Plain, Hits, Weight
 use Rattle.query_tree.specs.declared.kind.ListKind.{ListKind}
 use Rattle.query_tree.specs.declared.kind.ListKind.TheVariants.{And, Or, Difference, WeakAnd, StrongOr}
 use Rattle.query_tree.specs.declared.kind.JoinKind.TheVariants.{Apply, Extract}
+use Rattle.query_tree.specs.declared.kind.TermKind.TheVariants.{Whole, Prefix}
 use Rattle.query_tree.specs.Tree.{Tree, term_at, list_at, join_at, no_operands, with_operand}
 use Rattle.query_tree.specs.Size.{node_count, tree_depth}
 use Rattle.query_tree.specs.Text.{query_text, default_limit}
@@ -15,10 +16,13 @@ IsPrinted tree text nodes depth = (query_text tree ≡ text) × (node_count tree
 
 -- columns are left at 1: no text, and no size, depends on them
 abbrev pub friends : Tree
-friends = term_at 1 (codes "friend") (codes "1")
+friends = term_at 1 Whole (codes "friend") (codes "1")
 
 abbrev pub romans : Tree
-romans = term_at 1 (codes "lives") (codes "rome")
+romans = term_at 1 Whole (codes "lives") (codes "rome")
+
+abbrev pub towns : Tree
+towns = term_at 1 Prefix (codes "lives") (codes "ro")
 
 abbrev pub list_of_two : ListKind → Tree → Mark → Tree → Mark → Tree
 list_of_two kind first first_mark second second_mark =
@@ -30,6 +34,10 @@ tagged limit node = join_at 1 Apply 1 (codes "tagged") limit node
 -- queries of every kind
 pub record WorkedQueries : Type 0 where
   pub a_term : IsPrinted friends (codes "friend:1") 1 0
+  pub a_prefix : IsPrinted towns (codes "lives:ro*") 1 0
+  pub a_marked_prefix :
+      IsPrinted (list_of_two WeakAnd towns (Weight 1 2) romans Plain)
+      (codes "(weak-and (term lives:ro* :optional-weight 1/2) lives:rome)") 3 2
   pub a_list : IsPrinted (list_of_two And friends Plain romans Plain) (codes "(and friend:1 lives:rome)") 3 1
   pub a_difference :
       IsPrinted (list_of_two Difference friends Plain romans Plain) (codes "(difference friend:1 lives:rome)") 3 1

@@ -7,7 +7,7 @@ use Rattle.query_tree.specs.Tree.{Tree, Forest, term_at, list_at, join_at, no_op
 -- each term, list and join is one node
 abbrev mutual
   pub node_count : Tree → ℕ
-  node_count (term_at column type_name key) = 1
+  node_count (term_at column kind type_name key) = 1
   node_count (list_at column kind operands) = 1 + operand_nodes operands
   node_count (join_at column kind type_column type_name limit node) = 1 + node_count node
 
@@ -25,7 +25,7 @@ mark_depth (Weight numerator denominator) = 1
 -- option, and one more than the operands' greatest for lists and joins
 abbrev mutual
   pub tree_depth : Tree → ℕ
-  tree_depth (term_at column type_name key) = 0
+  tree_depth (term_at column kind type_name key) = 0
   tree_depth (list_at column kind operands) = 1 + operand_depth operands
   tree_depth (join_at column kind type_column type_name limit node) = 1 + tree_depth node
 

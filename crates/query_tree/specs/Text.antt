@@ -5,6 +5,8 @@ use Rattle.query_tree.specs.declared.query.Mark.{Mark}
 use Rattle.query_tree.specs.declared.query.Mark.TheVariants.{Plain, Hits, Weight}
 use Rattle.query_tree.specs.declared.kind.ListKind.{ListKind}
 use Rattle.query_tree.specs.declared.kind.ListKind.TheVariants.{And, Or, Difference, WeakAnd, StrongOr}
+use Rattle.query_tree.specs.declared.kind.TermKind.{TermKind}
+use Rattle.query_tree.specs.declared.kind.TermKind.TheVariants as terms
 use Rattle.query_tree.specs.declared.kind.JoinKind.{JoinKind}
 use Rattle.query_tree.specs.declared.kind.JoinKind.TheVariants.{Apply, Extract}
 use Rattle.query_tree.specs.Tree.{Tree, Forest, term_at, list_at, join_at, no_operands, with_operand}
@@ -35,8 +37,13 @@ default_limit = 1000
 abbrev pub limit_text : ℕ → List ℕ
 limit_text limit = if limit == default_limit then [] else codes " :limit " ++ decimal limit
 
-abbrev pub pair_text : List ℕ → List ℕ → List ℕ
-pair_text type_name key = type_name ++ codes ":" ++ key
+-- a star ends the key of a prefix term
+abbrev pub key_text : TermKind → List ℕ → List ℕ
+key_text terms.Whole key = key
+key_text terms.Prefix key = key ++ codes "*"
+
+abbrev pub pair_text : TermKind → List ℕ → List ℕ → List ℕ
+pair_text kind type_name key = type_name ++ codes ":" ++ key_text kind key
 
 -- a term with the option of its mark; without one it stands bare
 abbrev pub term_text : List ℕ → Mark → List ℕ
@@ -47,7 +54,7 @@ term_text pair (Weight numerator denominator) = codes "(term " ++ pair ++ mark_t
 -- a node as an operand with a mark, and operands, each after a space
 abbrev mutual
   pub node_text : Tree → Mark → List ℕ
-  node_text (term_at column type_name key) mark = term_text (pair_text type_name key) mark
+  node_text (term_at column kind type_name key) mark = term_text (pair_text kind type_name key) mark
   node_text (list_at column kind operands) mark =
       codes "(" ++ list_name kind ++ operands_text operands ++ mark_text mark ++ codes ")"
   node_text (join_at column kind type_column type_name limit node) mark =

@@ -2,21 +2,24 @@
 use Rattle.std.specs.Prelude.{ℕ, List, [], ◌∷◌, map}
 use Rattle.query_tree.specs.declared.kind.ListKind.{ListKind}
 use Rattle.query_tree.specs.declared.kind.ListKind.TheVariants.{And, Or, Difference, WeakAnd, StrongOr}
+use Rattle.query_tree.specs.declared.kind.TermKind.{TermKind}
+use Rattle.query_tree.specs.declared.kind.TermKind.TheVariants as terms
 use Rattle.query_tree.specs.declared.kind.JoinKind.{JoinKind}
 use Rattle.query_tree.specs.declared.kind.JoinKind.TheVariants.{Apply, Extract}
 use Rattle.query_tree.specs.declared.query.Mark.{Mark}
 use Rattle.query_tree.specs.declared.query.Operand.{Operand}
 use Rattle.query_tree.specs.declared.query.ListNode.{ListNode}
 use Rattle.query_tree.specs.declared.query.JoinNode.{JoinNode}
+use Rattle.query_tree.specs.declared.query.TermNode.{TermNode}
 use Rattle.query_tree.specs.declared.query.Query.{Query}
 use Rattle.query_tree.specs.declared.query.Query.TheOpen.{Query-F, JoinNode-F, ListNode-F, Operand-F}
 use Rattle.query_tree.specs.declared.query.Query.TheFolds.{fold-Query, fold-JoinNode, fold-ListNode, fold-Operand}
 
--- A term has its column, type name and key; a list its column, operator and operands; a join its
+-- A term has its column, whether its key is whole or a prefix, type name and key; a list its column, operator and operands; a join its
 -- column, operator, type name with its column, limit and inner query. Operands have their marks.
 mutual
   pub data Tree : Type 0 where
-    term_at : ℕ → List ℕ → List ℕ → Tree
+    term_at : ℕ → TermKind → List ℕ → List ℕ → Tree
     list_at : ℕ → ListKind → Forest → Tree
     join_at : ℕ → JoinKind → ℕ → List ℕ → ℕ → Tree → Tree
 
@@ -45,6 +48,9 @@ abbrev pub forest_of : List Marked → Forest
 forest_of [] = no_operands
 forest_of (operand ∷ operands) = with_operand operand.node operand.mark (forest_of operands)
 
+abbrev pub termed : TermKind → TermNode → Tree
+termed kind node = term_at node.column kind node.type_name node.key
+
 abbrev pub listed : ListKind → Listed → Tree
 listed kind node = list_at node.column kind node.operands
 
@@ -53,7 +59,8 @@ joined kind node = join_at node.column kind node.type_column node.type_name node
 
 -- one layer of the code's tree, with the plain trees of what lies below
 abbrev pub tree_step : Query-F Tree Joined Listed Marked → Tree
-tree_step (Query-F.Term node) = term_at node.column node.type_name node.key
+tree_step (Query-F.Term node) = termed terms.Whole node
+tree_step (Query-F.Prefix node) = termed terms.Prefix node
 tree_step (Query-F.And node) = listed And node
 tree_step (Query-F.Or node) = listed Or node
 tree_step (Query-F.Difference node) = listed Difference node

@@ -1,7 +1,12 @@
 ghost use Rattle.std.specs.Prelude.{◌≡◌};
-ghost use Rattle.query_tree.specs.Tree.{joined, joined_of, listed, listed_of, tree_of};
+ghost use Rattle.query_tree.specs.Marks.{may_mark};
 
-use crate::query::{JoinNode, ListNode, Query};
+/// Whether a term names its key whole, or names the beginning of its keys.
+#[derive(Clone, Copy, Debug, PartialEq, Eq)]
+pub enum TermKind {
+    Whole,
+    Prefix,
+}
 
 /// The operators over a list of operands.
 #[derive(Clone, Copy, Debug, PartialEq, Eq)]
@@ -20,27 +25,22 @@ pub enum JoinKind {
     Extract,
 }
 
-impl Query {
-    /// A list under its operator.
-    pub fn list(kind: ListKind, node: ListNode) -> Query
-        ensures { tree_of result ≡ listed kind (listed_of node) }
-    {
-        match kind {
-            ListKind::And => Query::And(node),
-            ListKind::Or => Query::Or(node),
-            ListKind::Difference => Query::Difference(node),
-            ListKind::WeakAnd => Query::WeakAnd(node),
-            ListKind::StrongOr => Query::StrongOr(node),
-        }
-    }
+/// The options by which an operand counts.
+#[derive(Clone, Copy, Debug, PartialEq, Eq)]
+pub enum MarkKind {
+    Hits,
+    Weight,
+}
 
-    /// A join under its operator.
-    pub fn join(kind: JoinKind, node: JoinNode) -> Query
-        ensures { tree_of result ≡ joined kind (joined_of node) }
+impl ListKind {
+    /// Whether an operand may have the option, in a format.
+    pub fn may_mark(self, format: u32, mark: MarkKind) -> bool
+        ensures { result ≡ may_mark format self mark }
     {
-        match kind {
-            JoinKind::Apply => Query::Apply(node),
-            JoinKind::Extract => Query::Extract(node),
+        match (self, mark) {
+            (ListKind::WeakAnd, MarkKind::Hits) | (ListKind::StrongOr, MarkKind::Weight) => true,
+            (ListKind::WeakAnd, MarkKind::Weight) => format == 2,
+            _ => false,
         }
     }
 }

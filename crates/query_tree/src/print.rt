@@ -1,11 +1,12 @@
 ghost use Rattle.std.specs.Prelude.{◌≡◌, ◌++◌, IfOk, OnOk, codes, if◌then◌else◌, ◌==◌};
 ghost use Rattle.std.specs.Fmt.{decimal};
 ghost use Rattle.query_tree.specs.Tree.{listed_of, tree_of};
-ghost use Rattle.query_tree.specs.Text.{limit_text, mark_text, node_text, operands_text, pair_text, query_text, term_text};
+ghost use Rattle.query_tree.specs.Text.{key_text, limit_text, mark_text, node_text, operands_text, pair_text, query_text, term_text};
 
+use crate::kind::TermKind;
 use crate::query::{JoinNode, ListNode, Mark, Query, TermNode};
 use std::alloc::{AllocError, Global};
-use uni_base::Text;
+use uni_base::{Text, Word};
 
 /// How many hits a join follows where its text has no `:limit`.
 pub const DEFAULT_LIMIT: u32 = 1000;
@@ -24,7 +25,8 @@ fn print_node(alloc: Global, out: &mut Text, query: &Query, mark: Mark) -> Resul
     ensures { OnOk result (out.new ≡ out.old ++ node_text (tree_of query.now) mark) }
 {
     match query {
-        Query::Term(term) => print_term(alloc, out, term, mark),
+        Query::Term(term) => print_term(alloc, out, TermKind::Whole, term, mark),
+        Query::Prefix(term) => print_term(alloc, out, TermKind::Prefix, term, mark),
         Query::And(list) => print_list(alloc, out, b"(and", list, mark),
         Query::Or(list) => print_list(alloc, out, b"(or", list, mark),
         Query::Difference(list) => print_list(alloc, out, b"(difference", list, mark),
@@ -78,24 +80,41 @@ fn print_join(
     add(out, b")")
 }
 
-fn print_term(alloc: Global, out: &mut Text, term: &TermNode, mark: Mark) -> Result<(), AllocError>
-    ensures { OnOk result (out.new ≡ out.old ++ term_text (pair_text term.now.type_name term.now.key) mark) }
+fn print_term(
+    alloc: Global,
+    out: &mut Text,
+    kind: TermKind,
+    term: &TermNode,
+    mark: Mark,
+) -> Result<(), AllocError>
+    ensures { OnOk result
+        (out.new ≡ out.old ++ term_text (pair_text kind term.now.type_name term.now.key) mark) }
 {
     if mark == Mark::Plain {
-        return print_pair(out, term);
+        return print_pair(out, kind, term);
     }
     add(out, b"(term ")?;
-    print_pair(out, term)?;
+    print_pair(out, kind, term)?;
     print_mark(alloc, out, mark)?;
     add(out, b")")
 }
 
-fn print_pair(out: &mut Text, term: &TermNode) -> Result<(), AllocError>
-    ensures { OnOk result (out.new ≡ out.old ++ pair_text term.now.type_name term.now.key) }
+fn print_pair(out: &mut Text, kind: TermKind, term: &TermNode) -> Result<(), AllocError>
+    ensures { OnOk result (out.new ≡ out.old ++ pair_text kind term.now.type_name term.now.key) }
 {
     add(out, term.type_name.bytes())?;
     add(out, b":")?;
-    add(out, term.key.bytes())
+    print_key(out, kind, &term.key)
+}
+
+fn print_key(out: &mut Text, kind: TermKind, key: &Word) -> Result<(), AllocError>
+    ensures { OnOk result (out.new ≡ out.old ++ key_text kind key.now) }
+{
+    add(out, key.bytes())?;
+    match kind {
+        TermKind::Whole => Ok(()),
+        TermKind::Prefix => add(out, b"*"),
+    }
 }
 
 fn print_limit(alloc: Global, out: &mut Text, limit: u32) -> Result<(), AllocError>

@@ -6,7 +6,7 @@ use std::test::Fail;
 use uni_base::Word;
 
 /// The texts of the queries that `query` makes, by their numbers.
-static TEXTS: [&str; 14] = [
+static TEXTS: [&str; 16] = [
     "friend:1",
     "(and friend:1 lives:rome)",
     "(or friend:1 lives:rome)",
@@ -21,6 +21,8 @@ static TEXTS: [&str; 14] = [
     "(weak-and (apply friend: friend:1 :limit 5 :optional-hits 1000000) friend:1)",
     "(strong-or (or friend:1 lives:rome :optional-weight 1/3) friend:1)",
     "(and (weak-and (term friend:1 :optional-hits 1) lives:rome) friend:1)",
+    "lives:ro*",
+    "(weak-and (term lives:ro* :optional-weight 1/2) friend:1)",
 ];
 
 fn query(alloc: Global, number: usize) -> Result<Query, Fail> {
@@ -44,6 +46,11 @@ fn query(alloc: Global, number: usize) -> Result<Query, Fail> {
             let inner = Query::WeakAnd(marked(alloc, Mark::Hits(1), Mark::Plain)?);
             Ok(Query::And(before_friends(alloc, inner, Mark::Plain)?))
         }
+        14 => prefix(b"lives", b"ro"),
+        15 => {
+            let weighed = before_friends(alloc, prefix(b"lives", b"ro")?, Mark::Weight(1, 2))?;
+            Ok(Query::WeakAnd(weighed))
+        }
         _ => friends(),
     }
 }
@@ -54,6 +61,14 @@ fn word(text: &[u8]) -> Result<Word, Fail> {
 
 fn term(type_name: &[u8], key: &[u8]) -> Result<Query, Fail> {
     Ok(Query::Term(TermNode {
+        column: 1,
+        type_name: word(type_name)?,
+        key: word(key)?,
+    }))
+}
+
+fn prefix(type_name: &[u8], key: &[u8]) -> Result<Query, Fail> {
+    Ok(Query::Prefix(TermNode {
         column: 1,
         type_name: word(type_name)?,
         key: word(key)?,

@@ -1,0 +1,6 @@
+pub mod Faults
+pub mod Operands
+pub mod SeenLemmas
+pub mod Declares
+pub mod Columns
+pub mod Worked

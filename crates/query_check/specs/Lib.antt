@@ -1,0 +1,5 @@
+pub mod Plan
+pub mod Typing
+pub mod Verticals
+pub mod Laws
+pub mod Examples
