@@ -1,6 +1,6 @@
 -- A text with a separator, and one with none.
 use Rattle.std.proofs.lemmas.Bool.{or_parts}
-use Rattle.std.proofs.Common.{◌≡◌, ℕ, ◌<◌, ◌==◌, ◌||◌, Bool, true, false, List, [], ◌∷◌, length, get_or, take, drop, Some, None, refl, eq-eqb, arith, zero, suc, ◌+◌, ◌-◌, add-one}
+use Rattle.std.proofs.Common.{◌≡◌, ℕ, ◌<◌, ◌==◌, false, List, [], ◌∷◌, length, get_or, take, drop, Some, None, refl, eq-eqb, arith, zero, suc, ◌+◌, ◌-◌, add-one}
 use Rattle.std.proofs.lemmas.List.{length-drop, take_all}
 use Rattle.std.specs.List.{list_any}
 use Rattle.uni_base.specs.Fields.{cut_at}

@@ -1,12 +1,12 @@
 -- The laws of both walks, over any test by which a walk keeps an entity.
-use Rattle.std.proofs.Common.{◌≡◌, ℕ, zero, suc, ◌+◌, ◌-◌, ◌≤◌, Bool, true, false, not, ◌&&◌, ◌||◌, cond, nat_le, nat_lt, List, [], ◌∷◌, ◌++◌, refl, sym, ◌∙◌, ap, subst, arith, length, take, map, filter, length-append, append_assoc}
+use Rattle.std.proofs.Common.{◌≡◌, ℕ, zero, suc, ◌+◌, Bool, true, false, ◌&&◌, ◌||◌, cond, List, [], ◌∷◌, ◌++◌, refl, sym, ◌∙◌, ap, arith, length, take, map, filter, length-append, append_assoc}
 use Rattle.std.specs.List.{list_any, list_all}
 use Rattle.std.proofs.lemmas.Bool.Decides.{nat_tests}
 use Rattle.std.proofs.lemmas.List.{append-nil, map-id, take_all}
 use Rattle.std.proofs.lemmas.List.Elements.{filter_agree}
 use Rattle.std.proofs.lemmas.Simd.{map-map}
 use Rattle.uni_base.specs.Walks.{Quota, Unmarked, Count, Weight, Walker, spent, walked, lets_pass, weak_keeps, weak_walk, has_share, strong_keeps, strong_walk}
-use Rattle.uni_base.specs.WalkLaws.{some_has, all_have, allows_weakly, allows_strongly, all_allow_weakly, all_allow_strongly, AllFresh, AllAtMostWhole, WeakWalkIsExact, StrongWalkIsExact, is_bare, is_weighted, WeakWalkIsAnd, StrongWalkIsOr, recounted, WeakWalkGoesByCounts, WalksPassOthers}
+use Rattle.uni_base.specs.WalkLaws.{some_has, all_have, all_allow_weakly, all_allow_strongly, AllFresh, AllAtMostWhole, WeakWalkIsExact, StrongWalkIsExact, is_bare, is_weighted, WeakWalkIsAnd, StrongWalkIsOr, recounted, WeakWalkGoesByCounts, WalksPassOthers}
 use Rattle.uni_base.proofs.RankedLemmas.{and_false, and_true}
 use Rattle.uni_base.proofs.WalkSteps.{walked_all, has_walked, weak_keeps_is, strong_keeps_is, nothing_weak, nothing_strong}
 
@@ -126,7 +126,7 @@ module _ {K : Type 0} where
             → walk keeps (kept + 1) (map (walked y) operands) (ys ++ x ∷ []) ≡ ended (kept + 1) (map (walked y) operands) x (walk keeps (kept + 1) (map (walked y) operands) ys)
             → walk keeps kept operands (ys ++ x ∷ []) ≡ ended kept operands x (walk keeps kept operands ys)
             → turn b y (walk keeps (kept + 1) (map (walked y) operands) (ys ++ x ∷ [])) (walk keeps kept operands (ys ++ x ∷ []))
-              ≡ ended kept operands x (turn b y (walk keeps (kept + 1) (map (walked y) operands) ys) (walk keeps kept operands ys))
+            ≡ ended kept operands x (turn b y (walk keeps (kept + 1) (map (walked y) operands) ys) (walk keeps kept operands ys))
         by true if_kept if_not = ap (λ ks. y ∷ ks) if_kept ∙ ended_cons kept operands x y (walk keeps (kept + 1) (map (walked y) operands) ys)
         by false if_kept if_not = if_not
 
@@ -185,7 +185,7 @@ module _ {K : Type 0} where
         weak_is_walk 0 operands (xs ++ x ∷ []) ∙ walk-snoc weak_keeps 0 operands xs x
         ∙ ap (λ (n : ℕ). cond (weak_keeps n (map (walked_all kept) operands) x) (kept ++ x ∷ []) kept) (plain (length kept))
         ∙ ap (λ b. cond b (kept ++ x ∷ []) kept)
-          (weak_keeps_is kept x operands fresh most (walk_whole weak_keeps operands (all_allow_weakly operands) (weak_keeping operands fresh most) xs (nothing_weak operands)))
+        (weak_keeps_is kept x operands fresh most (walk_whole weak_keeps operands (all_allow_weakly operands) (weak_keeping operands fresh most) xs (nothing_weak operands)))
         ∙ ap (λ (ks : List K). cond (some_has operands x && all_allow_weakly operands (ks ++ x ∷ [])) (ks ++ x ∷ []) ks) (sym (weak_is_walk 0 operands xs));
     beginnings = λ operands xs n fresh most.
         ap (λ (ks : List K). all_allow_weakly operands (take n ks)) (weak_is_walk 0 operands xs)
@@ -232,8 +232,8 @@ module _ {K : Type 0} where
     walk-filter kept operands (x ∷ xs) holds =
         ap (λ b. turn b x (walk keeps (kept + 1) (map (walked x) operands) xs) (walk keeps kept operands xs)) (same kept operands x holds)
         ∙ by (test operands x)
-          (walk-filter (kept + 1) (map (walked x) operands) xs (on operands x holds) ∙ filter_agree (test (map (walked x) operands)) (test operands) (λ y. fixed x y operands) xs)
-          (walk-filter kept operands xs holds)
+        (walk-filter (kept + 1) (map (walked x) operands) xs (on operands x holds) ∙ filter_agree (test (map (walked x) operands)) (test operands) (λ y. fixed x y operands) xs)
+        (walk-filter kept operands xs holds)
       where
         by : (b : Bool) → walk keeps (kept + 1) (map (walked x) operands) xs ≡ filter (test operands) xs → walk keeps kept operands xs ≡ filter (test operands) xs
             → turn b x (walk keeps (kept + 1) (map (walked x) operands) xs) (walk keeps kept operands xs) ≡ cond b (x ∷ filter (test operands) xs) (filter (test operands) xs)
@@ -247,7 +247,7 @@ module _ {K : Type 0} where
     walk-passes kept operands (x ∷ xs) =
         by (some_has operands x) refl
         (ap (walk keeps (kept + 1) (map (walked x) operands)) (filter_agree (some_has operands) (some_has (map (walked x) operands)) (λ y. sym (some_has-walked x y operands)) xs)
-          ∙ walk-passes (kept + 1) (map (walked x) operands) xs)
+        ∙ walk-passes (kept + 1) (map (walked x) operands) xs)
         (walk-passes kept operands xs)
       where
         by : (b : Bool) → some_has operands x ≡ b
@@ -306,7 +306,7 @@ module _ {K : Type 0} where
     filters = λ kept o operands xs bare.
         weak_is_walk kept (o ∷ operands) xs
         ∙ walk-filter weak_keeps IsBareSome all_have
-          (λ k os x. same k os x) (λ os x. on os x) (λ x y os. all_have-walked x y os) kept (o ∷ operands) xs bare;
+        (λ k os x. same k os x) (λ os x. on os x) (λ x y os. all_have-walked x y os) kept (o ∷ operands) xs bare;
   }
     where
       some_all : (os : List (Walker K)) (x : K) (a : Bool) → ((a || some_has os x) && (a && all_have os x)) ≡ (a && all_have os x)
@@ -340,7 +340,7 @@ module _ {K : Type 0} where
     filters = λ kept operands xs none.
         strong_is_walk kept operands xs
         ∙ walk-filter strong_keeps (λ os. some_weighted os ≡ false) some_has
-          (λ k os x h. ap (λ b. some_has os x && b) (strong_weightless k os x h) ∙ and_true (some_has os x)) weightless_lasts (λ x y os. some_has-walked x y os) kept operands xs none;
+        (λ k os x h. ap (λ b. some_has os x && b) (strong_weightless k os x h) ∙ and_true (some_has os x)) weightless_lasts (λ x y os. some_has-walked x y os) kept operands xs none;
   }
 
   -- ---- counts alone
@@ -351,7 +351,7 @@ module _ {K : Type 0} where
   forgets_walked : (x : K) (o : Walker K) → bare_own (walked x o) ≡ bare_own (walked x (bare_own o))
   forgets_walked x o =
       elim (o.has x) as (λ b. bare_own (elim b as (λ _. Walker K) [ true ↦ record o { own = o.own + 1 } | false ↦ record o { quota = spent o.quota } ])
-          ≡ bare_own (elim b as (λ _. Walker K) [ true ↦ record (bare_own o) { own = (bare_own o).own + 1 } | false ↦ record (bare_own o) { quota = spent o.quota } ])) [ true ↦ refl | false ↦ refl ]
+      ≡ bare_own (elim b as (λ _. Walker K) [ true ↦ record (bare_own o) { own = (bare_own o).own + 1 } | false ↦ record (bare_own o) { quota = spent o.quota } ])) [ true ↦ refl | false ↦ refl ]
 
   all_forget : (x : K) (operands : List (Walker K)) → map bare_own (map (walked x) operands) ≡ map bare_own (map (walked x) (map bare_own operands))
   all_forget x [] = refl
@@ -380,10 +380,10 @@ module _ {K : Type 0} where
       turn_same (weak_keeps kept operands x) (weak_keeps other (map bare_own operands) x) x (walk weak_keeps (kept + 1) (map (walked x) operands) xs) (walk weak_keeps kept operands xs)
       (walk weak_keeps (other + 1) (map (walked x) (map bare_own operands)) xs) (walk weak_keeps other (map bare_own operands) xs)
       (ap (λ b. some_has operands x && b) (passes_forget kept other operands x none)
-        ∙ ap (λ b. b && list_all (λ o. o.has x || lets_pass other o.quota o.own) (map bare_own operands)) (sym (some_has-forget operands x)))
+      ∙ ap (λ b. b && list_all (λ o. o.has x || lets_pass other o.quota o.own) (map bare_own operands)) (sym (some_has-forget operands x)))
       (forgotten (kept + 1) (other + 1) (map (walked x) operands) xs (weightless_lasts operands x none)
-        ∙ ap (λ (os : List (Walker K)). walk weak_keeps (other + 1) os xs) (all_forget x operands)
-        ∙ sym (forgotten (other + 1) (other + 1) (map (walked x) (map bare_own operands)) xs (weightless_lasts (map bare_own operands) x (weightless_forget operands ∙ none))))
+      ∙ ap (λ (os : List (Walker K)). walk weak_keeps (other + 1) os xs) (all_forget x operands)
+      ∙ sym (forgotten (other + 1) (other + 1) (map (walked x) (map bare_own operands)) xs (weightless_lasts (map bare_own operands) x (weightless_forget operands ∙ none))))
       (forgotten kept other operands xs none)
 
   pub weak_by_counts : WeakWalkGoesByCounts K

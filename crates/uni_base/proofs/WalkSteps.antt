@@ -1,14 +1,13 @@
 -- Operands once some entities are kept.
-use Rattle.std.proofs.Common.{◌≡◌, ℕ, zero, suc, ◌+◌, ◌-◌, ◌*◌, ◌/◌, ◌<◌, ◌≤◌, Bool, true, false, not, ◌&&◌, ◌||◌, cond, nat_le, nat_lt, List, [], ◌∷◌, ◌++◌, refl, sym, ◌∙◌, ap, subst, arith, length, take, map, filter, count_by, length-append, append_assoc, eq-eqb}
+use Rattle.std.proofs.Common.{◌≡◌, ℕ, zero, suc, ◌+◌, ◌-◌, ◌*◌, ◌/◌, ◌<◌, ◌≤◌, Bool, true, false, not, ◌&&◌, ◌||◌, cond, nat_le, nat_lt, List, [], ◌∷◌, ◌++◌, refl, sym, ◌∙◌, ap, subst, arith, length, map, count_by, length-append}
 use Rattle.std.specs.List.{list_any, list_all}
 use Rattle.std.proofs.Math.Nat.{div-zero, lt-mul-div-succ, zero-div}
 use Rattle.std.proofs.lemmas.Bool.Decides.{nat_tests}
-use Rattle.std.proofs.lemmas.List.{append-nil}
 use Rattle.std.proofs.lemmas.List.Folds.{list_all-append}
 use Rattle.std.proofs.lemmas.List.Sums.{sum_by-append, sum_by-cons}
 use Rattle.std.proofs.lemmas.Nat.{div_below}
-use Rattle.uni_base.specs.Walks.{Quota, Unmarked, Count, Weight, Walker, share_of, spent, walked, lets_pass, weak_keeps, weak_walk, has_share, strong_keeps, strong_walk}
-use Rattle.uni_base.specs.WalkLaws.{some_has, all_have, has_part, allows_weakly, allows_strongly, all_allow_weakly, all_allow_strongly, IsFresh, IsAtMostWhole, AllFresh, AllAtMostWhole}
+use Rattle.uni_base.specs.Walks.{Quota, Unmarked, Count, Weight, Walker, share_of, spent, walked, lets_pass, weak_keeps, has_share, strong_keeps}
+use Rattle.uni_base.specs.WalkLaws.{some_has, has_part, allows_weakly, allows_strongly, all_allow_weakly, all_allow_strongly, IsFresh, IsAtMostWhole, AllFresh, AllAtMostWhole}
 
 -- an operand once entities are kept, one after the other
 abbrev pub walked_all : {K : Type 0} → List K → Walker K → Walker K

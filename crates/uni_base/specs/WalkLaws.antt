@@ -1,5 +1,5 @@
 -- What the two walks keep, said of the kept entities as a list.
-use Rattle.std.specs.Prelude.{◌≡◌, ℕ, ◌≤◌, Bool, true, false, not, ◌&&◌, nat_le, if◌then◌else◌, List, [], ◌∷◌, ◌++◌, length, map, take, filter, count_by, All}
+use Rattle.std.specs.Prelude.{◌≡◌, ℕ, ◌≤◌, Bool, true, false, not, ◌&&◌, nat_le, if◌then◌else◌, List, [], ◌∷◌, ◌++◌, length, map, take, filter, count_by}
 use Rattle.std.specs.List.{list_any, list_all}
 use Rattle.uni_base.specs.Walks.{Quota, Unmarked, Count, Weight, Walker, share_of, weak_walk, strong_walk}
 
@@ -56,14 +56,14 @@ AllAtMostWhole (o ∷ operands) = IsAtMostWhole o.quota × AllAtMostWhole operan
 pub record WeakWalkIsExact (K : Type 0) : Type 0 where
   pub keeps : (operands : List (Walker K)) (xs : List K) (x : K) → AllFresh operands → AllAtMostWhole operands
       → let kept = weak_walk 0 operands xs in
-        weak_walk 0 operands (xs ++ x ∷ []) ≡ (if some_has operands x && all_allow_weakly operands (kept ++ x ∷ []) then kept ++ x ∷ [] else kept)
+      weak_walk 0 operands (xs ++ x ∷ []) ≡ (if some_has operands x && all_allow_weakly operands (kept ++ x ∷ []) then kept ++ x ∷ [] else kept)
   pub beginnings : (operands : List (Walker K)) (xs : List K) (n : ℕ) → AllFresh operands → AllAtMostWhole operands → all_allow_weakly operands (take n (weak_walk 0 operands xs)) ≡ true
 
 -- and the strong walk likewise, with weights of any size
 pub record StrongWalkIsExact (K : Type 0) : Type 0 where
   pub keeps : (operands : List (Walker K)) (xs : List K) (x : K) → AllFresh operands
       → let kept = strong_walk 0 operands xs in
-        strong_walk 0 operands (xs ++ x ∷ []) ≡ (if some_has operands x && all_allow_strongly operands (kept ++ x ∷ []) then kept ++ x ∷ [] else kept)
+      strong_walk 0 operands (xs ++ x ∷ []) ≡ (if some_has operands x && all_allow_strongly operands (kept ++ x ∷ []) then kept ++ x ∷ [] else kept)
   pub beginnings : (operands : List (Walker K)) (xs : List K) (n : ℕ) → AllFresh operands → all_allow_strongly operands (take n (strong_walk 0 operands xs)) ≡ true
 
 -- an operand without a mark: no entity may be kept that it lacks

@@ -1,4 +1,4 @@
-use Rattle.std.proofs.Common.{◌≡◌, [], None, Some, ap, sym, ◌∙◌}
+use Rattle.std.proofs.Common.{[], ap, sym, ◌∙◌}
 use Rattle.std.specs.Option.{option_map_or}
 use Rattle.uni_base.specs.Fields.{fields_of}
 use Rattle.uni_base.proofs.FieldLemmas.{fields_of-cut, fields_of-uncut}
