@@ -1,0 +1,28 @@
+use Rattle.std.proofs.Common.{◌≡◌, ◌<◌, List, [], ◌∷◌, ◌++◌, length, arith, ap, sym, subst}
+use Rattle.std.specs.Map.{values_of}
+use Rattle.uni_schema.specs.Schema.{Declarations, IsSchema}
+use Rattle.uni_schema.specs.declared.schema.TypeDef.{TypeDef}
+use Rattle.uni_schema.proofs.Added.{IsAdded, added}
+use Rattle.uni_schema.proofs.Schemas.{with_type-kept}
+use Rattle.uni_schema.proofs.schema.Schema.add_type.Goals as goal
+
+-- the entries with the new one
+new : (c : goal.In_ok-insert) → IsAdded (λ d. d.name) c.args.type_def c.self.inside.types.entries c.insert.new.self.entries
+new c = added (λ d. d.name) c.args.type_def c.self.inside.types.entries c.insert.new.self.entries c.self.invariant.0.type_names
+    (rw (ap (λ (s : Declarations). s.types) c.self.view_is) c.requires.fresh) c.in_ok-insert.ensures.entries
+
+whole : (c : goal.In_ok-insert) → List TypeDef → Declarations
+whole c xs = record { format = c.self.inside.format; verticals = values_of c.self.inside.verticals.entries; types = xs }
+
+pub invariant_of-self-2 : goal.invariant_of-self-2
+unfolding whole
+invariant_of-self-2 c =
+    let new = new c in
+    let room : length (values_of c.self.inside.types.entries) < 256 = rw (ap (λ (s : Declarations). length s.types) c.self.view_is) c.requires.room in (
+      record { type_names = new.named; vertical_names = c.self.invariant.0.vertical_names },
+      subst (λ xs. IsSchema (whole c xs)) (sym new.values) (with_type-kept (whole c (values_of c.self.inside.types.entries)) c.args.type_def c.self.invariant.1 room (rw (ap (λ (s : Declarations). length s.verticals) c.self.view_is) c.requires.fits) c.requires.allows),
+    )
+
+pub returns-clause-ok : goal.returns-clause-ok
+unfolding whole
+returns-clause-ok c = rw (← c.self.view_is) (ap (whole c) (new c).values)

@@ -1,0 +1,13 @@
+//! What a script declares: its format, its verticals and its types of edges, as its header says.
+#![tactic(auto)]
+
+mod declare;
+mod header;
+mod line;
+mod refusal;
+mod rules;
+mod schema;
+
+pub use header::HeaderReader;
+pub use refusal::SchemaRefusal;
+pub use schema::{Origin, Owner, Owners, Schema, Store, TypeDef, VerticalDef};
