@@ -1,4 +1,4 @@
-ghost use Rattle.std.specs.Prelude.{◌≡◌, ◌+◌, ◌⊎◌, false, true, IfOk, IfErr, OnErr, Some, None, MatchOption};
+ghost use Rattle.std.specs.Prelude.{◌≡◌, ◌+◌, ◌⊎◌, false, true, IfOk, IfErr, OnOk, OnErr};
 ghost use Rattle.uni_schema.specs.Header.{opening, step, line_of, goes, refuses};
 
 use crate::line::{HeaderLine, declaration_of};
@@ -46,6 +46,7 @@ impl HeaderReader {
         requires next { line_no ≡ self.old.taken + 1 }
         requires open { self.old.ended ≡ false }
         ensures ok { IfOk result (λ last. (step self.old line.now ≡ goes self.new) × (last ≡ self.new.ended)) }
+        ensures counted { OnOk result (self.new.taken ≡ self.old.taken + 1) }
         ensures refused { IfErr result (λ refusal. (refusal ≡ SchemaRefusal.Memory) ⊎ (step self.old line.now ≡ refuses refusal)) }
         ensures err { OnErr result (self.new ≡ self.old) }
     {

@@ -7,6 +7,8 @@ mod line;
 mod refusal;
 mod rules;
 mod schema;
+#[cfg(test)]
+mod tests;
 
 pub use header::HeaderReader;
 pub use refusal::SchemaRefusal;
