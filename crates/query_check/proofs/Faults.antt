@@ -1,12 +1,12 @@
 -- Faults of steps that follow one another.
-use Rattle.std.proofs.Common.{◌≡◌, ℕ, ◌+◌, ◌<◌, Bool, true, false, cond, Result, Ok, Err, refl, sym, ap, ◌∙◌, subst, arith}
+use Rattle.std.proofs.Common.{◌≡◌, ℕ, ◌+◌, ◌<◌, Bool, true, false, cond, Result, Ok, ap, ◌∙◌, arith}
 use Rattle.std.specs.Prelude.{nat_le}
 use Rattle.std.proofs.lemmas.Bool.Decides.{nat_tests}
 use Rattle.query_tree.specs.declared.refusal.QueryRefusal.{QueryRefusal}
 use Rattle.query_tree.specs.declared.refusal.QueryRefusal.TheVariants.{Fault, Memory}
 use Rattle.query_tree.specs.declared.kind.JoinKind.{JoinKind}
 use Rattle.query_tree.specs.Tree.{Joined, joined}
-use Rattle.uni_schema.specs.Schema.{Declarations}
+use Rattle.first_schema.specs.Schema.{Declarations}
 use Rattle.query_check.specs.Typing.{Mistyped, mistyped, and_then, Found, type_kept, join_store, typed, IsFault}
 
 -- the fault of the first step

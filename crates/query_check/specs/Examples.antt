@@ -1,17 +1,16 @@
 -- Queries with what they are under a schema, and with their first faults, by computation.
 use Rattle.std.specs.Prelude.{ℕ, ◌≡◌, ◌+◌, List, [], ◌∷◌, codes, Ok, Err}
 use Rattle.uni_base.specs.declared.edge.Key.TheVariants.{Id, Word}
-use Rattle.uni_schema.specs.Schema.{Declarations}
-use Rattle.uni_schema.specs.declared.schema.TypeDef.{TypeDef}
-use Rattle.uni_schema.specs.declared.schema.Origin.{Origin}
-use Rattle.uni_schema.specs.declared.schema.Origin.TheVariants.{Vertical, Words}
-use Rattle.uni_schema.specs.declared.schema.Owner.{Owner}
-use Rattle.uni_schema.specs.declared.schema.Owner.TheVariants.{Source, Target, Both}
-use Rattle.uni_schema.specs.declared.schema.Store.{Store}
-use Rattle.uni_schema.specs.declared.schema.Store.TheVariants.{Index, Forward}
+use Rattle.first_schema.specs.Schema.{Declarations}
+use Rattle.first_schema.specs.declared.schema.TypeDef.{TypeDef}
+use Rattle.first_schema.specs.declared.schema.Origin.{Origin}
+use Rattle.first_schema.specs.declared.schema.Origin.TheVariants.{Vertical, Words}
+use Rattle.first_schema.specs.declared.schema.Owner.{Owner}
+use Rattle.first_schema.specs.declared.schema.Owner.TheVariants.{Source, Target, Both}
+use Rattle.first_schema.specs.declared.schema.Store.{Store}
+use Rattle.first_schema.specs.declared.schema.Store.TheVariants.{Index, Forward}
 use Rattle.query_tree.specs.declared.kind.TermKind.TheVariants.{Whole, Prefix}
 use Rattle.query_tree.specs.declared.kind.ListKind.TheVariants.{And, WeakAnd}
-use Rattle.query_tree.specs.declared.kind.JoinKind.{JoinKind}
 use Rattle.query_tree.specs.declared.kind.JoinKind.TheVariants.{Apply, Extract}
 use Rattle.query_tree.specs.declared.query.Mark.TheVariants.{Plain, Weight}
 use Rattle.query_tree.specs.Tree.{Tree, term_at, list_at, join_at, no_operands, with_operand}
