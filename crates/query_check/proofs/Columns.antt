@@ -2,9 +2,9 @@
 use Rattle.std.proofs.Common.{◌≡◌, ℕ, ◌+◌, Bool, true, false, cond, List, Option, None, Some, Result, Ok, Err, refl, sym, ap, ◌∙◌}
 use Rattle.std.specs.Prelude.{nat_le, ok_or}
 use Rattle.std.specs.Option.{option_map}
-use Rattle.first_schema.specs.Schema.{Declarations}
-use Rattle.first_schema.specs.declared.schema.Store.{Store}
-use Rattle.first_schema.specs.declared.schema.Store.TheVariants.{Index}
+use Rattle.uni_schema.specs.Schema.{Declarations}
+use Rattle.uni_schema.specs.declared.schema.Store.{Store}
+use Rattle.uni_schema.specs.declared.schema.Store.TheVariants.{Index}
 use Rattle.query_tree.specs.declared.kind.TermKind.{TermKind}
 use Rattle.query_tree.specs.declared.kind.JoinKind.{JoinKind}
 use Rattle.query_tree.specs.Tree.{Tree, Forest, term_at, list_at, join_at, no_operands, with_operand}

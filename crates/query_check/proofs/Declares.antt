@@ -6,12 +6,12 @@ use Rattle.std.proofs.lemmas.Bool.Decides.{nat_tests}
 use Rattle.uni_base.specs.Numbers.{id_of}
 use Rattle.uni_base.specs.declared.edge.Key.{Key}
 use Rattle.uni_base.specs.declared.edge.Key.TheVariants.{Id, Word}
-use Rattle.first_schema.specs.Schema.{Declarations, type_no, type_at, key_from}
-use Rattle.first_schema.specs.declared.schema.TypeDef.{TypeDef}
-use Rattle.first_schema.specs.declared.schema.Origin.{Origin}
-use Rattle.first_schema.specs.declared.schema.Origin.TheVariants.{Vertical, Words}
-use Rattle.first_schema.specs.declared.schema.Store.{Store}
-use Rattle.first_schema.specs.declared.schema.Store.TheVariants.{Index, Forward}
+use Rattle.uni_schema.specs.Schema.{Declarations, type_no, type_at, key_from}
+use Rattle.uni_schema.specs.declared.schema.TypeDef.{TypeDef}
+use Rattle.uni_schema.specs.declared.schema.Origin.{Origin}
+use Rattle.uni_schema.specs.declared.schema.Origin.TheVariants.{Vertical, Words}
+use Rattle.uni_schema.specs.declared.schema.Store.{Store}
+use Rattle.uni_schema.specs.declared.schema.Store.TheVariants.{Index, Forward}
 use Rattle.query_tree.specs.declared.kind.TermKind.{TermKind}
 use Rattle.query_tree.specs.declared.kind.TermKind.TheVariants as terms
 use Rattle.query_tree.specs.declared.kind.ListKind.{ListKind}

@@ -6,7 +6,7 @@ use Rattle.query_tree.specs.declared.refusal.QueryRefusal.{QueryRefusal}
 use Rattle.query_tree.specs.declared.refusal.QueryRefusal.TheVariants.{Fault, Memory}
 use Rattle.query_tree.specs.declared.kind.JoinKind.{JoinKind}
 use Rattle.query_tree.specs.Tree.{Joined, joined}
-use Rattle.first_schema.specs.Schema.{Declarations}
+use Rattle.uni_schema.specs.Schema.{Declarations}
 use Rattle.query_check.specs.Typing.{Mistyped, mistyped, and_then, Found, type_kept, join_store, typed, IsFault}
 
 -- the fault of the first step

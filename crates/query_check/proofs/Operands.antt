@@ -5,7 +5,7 @@ use Rattle.query_tree.specs.declared.refusal.QueryRefusal.{QueryRefusal}
 use Rattle.query_tree.specs.declared.refusal.QueryRefusal.TheVariants.{Fault, Memory}
 use Rattle.query_tree.specs.Tree.{Tree, Forest, no_operands, with_operand}
 use Rattle.query_tree.specs.Columns.{column_of}
-use Rattle.first_schema.specs.Schema.{Declarations}
+use Rattle.uni_schema.specs.Schema.{Declarations}
 use Rattle.query_check.specs.Plan.{Plans, no_plans, with_plan, Stated, Seen, SeenOperand, plans_of, all_inner}
 use Rattle.query_check.specs.Typing.{Mistyped, mistyped, Operands, with_first, and_then, is_other, typed, operands_typed, IsFault}
 use Rattle.query_check.specs.Verticals.{AreStated}

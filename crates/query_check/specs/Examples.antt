@@ -1,14 +1,14 @@
 -- Queries with what they are under a schema, and with their first faults, by computation.
-use Rattle.std.specs.Prelude.{ℕ, ◌≡◌, ◌+◌, List, [], ◌∷◌, codes, Ok, Err}
+use Rattle.std.specs.Prelude.{ℕ, ◌≡◌, ◌+◌, false, List, [], ◌∷◌, codes, Ok, Err}
 use Rattle.uni_base.specs.declared.edge.Key.TheVariants.{Id, Word}
-use Rattle.first_schema.specs.Schema.{Declarations}
-use Rattle.first_schema.specs.declared.schema.TypeDef.{TypeDef}
-use Rattle.first_schema.specs.declared.schema.Origin.{Origin}
-use Rattle.first_schema.specs.declared.schema.Origin.TheVariants.{Vertical, Words}
-use Rattle.first_schema.specs.declared.schema.Owner.{Owner}
-use Rattle.first_schema.specs.declared.schema.Owner.TheVariants.{Source, Target, Both}
-use Rattle.first_schema.specs.declared.schema.Store.{Store}
-use Rattle.first_schema.specs.declared.schema.Store.TheVariants.{Index, Forward}
+use Rattle.uni_schema.specs.Schema.{Declarations}
+use Rattle.uni_schema.specs.declared.schema.TypeDef.{TypeDef}
+use Rattle.uni_schema.specs.declared.schema.Origin.{Origin}
+use Rattle.uni_schema.specs.declared.schema.Origin.TheVariants.{Vertical, Words}
+use Rattle.uni_schema.specs.declared.schema.Owner.{Owner}
+use Rattle.uni_schema.specs.declared.schema.Owner.TheVariants.{Source, Target, Both}
+use Rattle.uni_schema.specs.declared.schema.Store.{Store}
+use Rattle.uni_schema.specs.declared.schema.Store.TheVariants.{Index, Forward}
 use Rattle.query_tree.specs.declared.kind.TermKind.TheVariants.{Whole, Prefix}
 use Rattle.query_tree.specs.declared.kind.ListKind.TheVariants.{And, WeakAnd}
 use Rattle.query_tree.specs.declared.kind.JoinKind.TheVariants.{Apply, Extract}
@@ -19,12 +19,13 @@ use Rattle.query_check.specs.Typing.{typed}
 
 abbrev type_def : List ℕ → Origin → ℕ → Owner → Store → TypeDef
 type_def name origin target owner store =
-    record { name = name; origin = origin; target = target; owner = owner; store = store }
+    record { name = name; origin = origin; target = target; owner = owner; store = store; deny = false }
 
 -- people, with friends, and the towns where they live; photos, with whom they were tagged by, and whom
 -- they show
 abbrev pub album : Declarations
 album = record {
+  format = 2;
   verticals =
       record { name = codes "user"; shards = 2; replicas = 2 } ∷ record { name = codes "photo"; shards = 1; replicas = 1 } ∷ [];
   types =

@@ -1,6 +1,6 @@
 -- Laws of types.
 use Rattle.std.specs.Prelude.{ℕ, ◌≡◌, Result, Ok, Err}
-use Rattle.first_schema.specs.Schema.{Declarations}
+use Rattle.uni_schema.specs.Schema.{Declarations}
 use Rattle.query_tree.specs.Tree.{Tree}
 use Rattle.query_tree.specs.Columns.{AreSameButColumns}
 use Rattle.query_check.specs.Plan.{Stated}

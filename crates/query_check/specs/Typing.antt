@@ -1,12 +1,12 @@
 -- What a query asks for under a schema, or its first fault.
 use Rattle.std.specs.Prelude.{ℕ, ◌≡◌, ◌+◌, Bool, true, false, not, ◌==◌, nat_le, List, Option, Some, None, ok_or, Result, Ok, Err, if◌then◌else◌}
 use Rattle.std.specs.Option.{option_map, option_and_then}
-use Rattle.first_schema.specs.Schema.{Declarations, type_no, type_at, key_from}
-use Rattle.first_schema.specs.declared.schema.TypeDef.{TypeDef}
-use Rattle.first_schema.specs.declared.schema.Origin.{Origin}
-use Rattle.first_schema.specs.declared.schema.Origin.TheVariants.{Vertical, Words}
-use Rattle.first_schema.specs.declared.schema.Store.{Store}
-use Rattle.first_schema.specs.declared.schema.Store.TheVariants.{Index, Forward}
+use Rattle.uni_schema.specs.Schema.{Declarations, type_no, type_at, key_from}
+use Rattle.uni_schema.specs.declared.schema.TypeDef.{TypeDef}
+use Rattle.uni_schema.specs.declared.schema.Origin.{Origin}
+use Rattle.uni_schema.specs.declared.schema.Origin.TheVariants.{Vertical, Words}
+use Rattle.uni_schema.specs.declared.schema.Store.{Store}
+use Rattle.uni_schema.specs.declared.schema.Store.TheVariants.{Index, Forward}
 use Rattle.query_tree.specs.declared.kind.TermKind.{TermKind}
 use Rattle.query_tree.specs.declared.kind.TermKind.TheVariants as terms
 use Rattle.query_tree.specs.declared.kind.ListKind.{ListKind}

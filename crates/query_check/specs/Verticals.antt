@@ -2,12 +2,12 @@
 use Rattle.std.specs.Prelude.{ℕ, ◌≡◌, List, [], ◌∷◌, Some}
 use Rattle.uni_base.specs.declared.edge.Key.{Key}
 use Rattle.uni_base.specs.declared.edge.Key.TheVariants.{Id, Word}
-use Rattle.first_schema.specs.Schema.{Declarations, type_at}
-use Rattle.first_schema.specs.declared.schema.TypeDef.{TypeDef}
-use Rattle.first_schema.specs.declared.schema.Origin.{Origin}
-use Rattle.first_schema.specs.declared.schema.Origin.TheVariants.{Vertical, Words}
-use Rattle.first_schema.specs.declared.schema.Store.{Store}
-use Rattle.first_schema.specs.declared.schema.Store.TheVariants.{Index}
+use Rattle.uni_schema.specs.Schema.{Declarations, type_at}
+use Rattle.uni_schema.specs.declared.schema.TypeDef.{TypeDef}
+use Rattle.uni_schema.specs.declared.schema.Origin.{Origin}
+use Rattle.uni_schema.specs.declared.schema.Origin.TheVariants.{Vertical, Words}
+use Rattle.uni_schema.specs.declared.schema.Store.{Store}
+use Rattle.uni_schema.specs.declared.schema.Store.TheVariants.{Index}
 use Rattle.query_check.specs.Plan.{Plan, Plans, term_plan, prefix_plan, list_plan, join_plan, no_plans, with_plan, Stated}
 use Rattle.query_check.specs.Typing.{join_store}
 

@@ -1,12 +1,12 @@
 ghost use Rattle.std.specs.Prelude.{◌≡◌, ◌<◌, [], IfOk, MatchOption, MatchResult, None, Ok, Some, length};
-ghost use Rattle.first_schema.specs.Schema.{type_at};
+ghost use Rattle.uni_schema.specs.Schema.{type_at};
 ghost use Rattle.query_check.specs.Plan.{inner_of, seen_node, stated_of};
 ghost use Rattle.query_check.specs.Typing.{IsFault, leaf_plan, term_typed};
 
 use crate::checked::{Checked, CheckedNode};
 use crate::fault::KEY_KIND;
 use crate::lookup::{Found, find_type};
-use first_schema::{Origin, Schema, Store};
+use uni_schema::{Origin, Schema, Store};
 use query_tree::{QueryRefusal, TermKind, TermNode};
 use uni_base::Word;
 

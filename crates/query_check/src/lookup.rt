@@ -1,9 +1,9 @@
 ghost use Rattle.std.specs.Prelude.{◌≡◌, ◌<◌, Err, IfOk, MatchResult, Ok, Some, length};
-ghost use Rattle.first_schema.specs.Schema.{type_at};
+ghost use Rattle.uni_schema.specs.Schema.{type_at};
 ghost use Rattle.query_check.specs.Typing.{IsFault, store_code, type_kept};
 
 use crate::fault::{NOT_FORWARD, NOT_INDEXED, UNKNOWN_TYPE};
-use first_schema::{Schema, Store, TypeDef};
+use uni_schema::{Schema, Store, TypeDef};
 use query_tree::QueryRefusal;
 use uni_base::Word;
 

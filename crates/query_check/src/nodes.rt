@@ -8,7 +8,7 @@ use crate::checked::{Checked, CheckedNode, CheckedOperand};
 use crate::fault::{APPLY_SOURCE, NESTED_JOINS, VERTICAL_MISMATCH};
 use crate::leaf::check_term;
 use crate::lookup::find_type;
-use first_schema::{Origin, Schema, Store};
+use uni_schema::{Origin, Schema, Store};
 use query_tree::{JoinKind, JoinNode, ListKind, ListNode, Mark, Query, QueryRefusal, TermKind};
 use std::alloc::Global;
 use uni_base::Limits;

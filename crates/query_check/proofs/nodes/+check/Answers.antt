@@ -1,6 +1,6 @@
 use Rattle.std.proofs.Common.{◌+◌, ◌≤◌, List, length, None, arith, sym, ap, ◌∙◌, subst, ◌∷◌, Ok, drop}
 use Rattle.std.proofs.lemmas.Result.{err_from_is_err_and}
-use Rattle.first_schema.specs.declared.schema.Store.{Store}
+use Rattle.uni_schema.specs.declared.schema.Store.{Store}
 use Rattle.query_tree.specs.declared.query.Query.{Query}
 use Rattle.query_tree.specs.declared.query.Operand.{Operand}
 use Rattle.query_tree.specs.Tree.{Forest, Joined, Listed, joined, tree_of, operands_of}
