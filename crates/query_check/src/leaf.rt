@@ -6,9 +6,9 @@ ghost use Rattle.query_check.specs.Typing.{IsFault, leaf_plan, term_typed};
 use crate::checked::{Checked, CheckedNode};
 use crate::fault::KEY_KIND;
 use crate::lookup::{Found, find_type};
-use uni_schema::{Origin, Schema, Store};
 use query_tree::{QueryRefusal, TermKind, TermNode};
 use uni_base::Word;
+use uni_schema::{Origin, Schema, Store};
 
 /// Types a term, or a prefix term.
 pub(crate) fn check_term(

@@ -3,9 +3,9 @@ ghost use Rattle.uni_schema.specs.Schema.{type_at};
 ghost use Rattle.query_check.specs.Typing.{IsFault, store_code, type_kept};
 
 use crate::fault::{NOT_FORWARD, NOT_INDEXED, UNKNOWN_TYPE};
-use uni_schema::{Schema, Store, TypeDef};
 use query_tree::QueryRefusal;
 use uni_base::Word;
+use uni_schema::{Schema, Store, TypeDef};
 
 /// A type with its number.
 #[derive(Clone, Copy)]

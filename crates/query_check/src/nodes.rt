@@ -8,10 +8,10 @@ use crate::checked::{Checked, CheckedNode, CheckedOperand};
 use crate::fault::{APPLY_SOURCE, NESTED_JOINS, VERTICAL_MISMATCH};
 use crate::leaf::check_term;
 use crate::lookup::find_type;
-use uni_schema::{Origin, Schema, Store};
 use query_tree::{JoinKind, JoinNode, ListKind, ListNode, Mark, Query, QueryRefusal, TermKind};
 use std::alloc::Global;
 use uni_base::Limits;
+use uni_schema::{Origin, Schema, Store};
 
 /// Types a query under a schema: its first fault, or what it asks for. A query has at most as many
 /// joins around one another as the limits say.
