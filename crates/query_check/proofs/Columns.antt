@@ -6,7 +6,6 @@ use Rattle.uni_schema.specs.Schema.{Declarations}
 use Rattle.uni_schema.specs.declared.schema.Store.{Store}
 use Rattle.uni_schema.specs.declared.schema.Store.TheVariants.{Index}
 use Rattle.query_tree.specs.declared.kind.TermKind.{TermKind}
-use Rattle.query_tree.specs.declared.kind.ListKind.{ListKind}
 use Rattle.query_tree.specs.declared.kind.JoinKind.{JoinKind}
 use Rattle.query_tree.specs.Tree.{Tree, Forest, term_at, list_at, join_at, no_operands, with_operand}
 use Rattle.query_tree.specs.Columns.{column_of, without_columns, operands_without_columns}

@@ -1,5 +1,5 @@
 -- What is typed is declared, and of the vertical that is stated with it.
-use Rattle.std.proofs.Common.{◌≡◌, ℕ, ◌+◌, ◌==◌, Bool, true, false, not, cond, List, [], ◌∷◌, Option, None, Some, Result, Ok, Err, refl, sym, ap, ◌∙◌, subst, arith}
+use Rattle.std.proofs.Common.{◌≡◌, ℕ, ◌+◌, Bool, true, false, cond, List, Option, None, Some, Result, Ok, Err, refl, sym, ap, ◌∙◌, subst, arith}
 use Rattle.std.specs.Prelude.{nat_le, ok_or, IfOk, MatchResult}
 use Rattle.std.specs.Option.{option_map, option_and_then}
 use Rattle.std.proofs.lemmas.Bool.Decides.{nat_tests}
@@ -21,7 +21,7 @@ use Rattle.query_tree.specs.declared.refusal.QueryRefusal.{QueryRefusal}
 use Rattle.query_tree.specs.Tree.{Tree, Forest, term_at, list_at, join_at, no_operands, with_operand}
 use Rattle.query_tree.specs.Columns.{column_of}
 use Rattle.query_check.specs.declared.checked.Checked.{Checked}
-use Rattle.query_check.specs.Plan.{Plan, Plans, term_plan, prefix_plan, list_plan, join_plan, no_plans, with_plan, Stated, stated_of}
+use Rattle.query_check.specs.Plan.{Plan, term_plan, prefix_plan, list_plan, join_plan, no_plans, Stated, stated_of}
 use Rattle.query_check.specs.Typing.{Mistyped, mistyped, and_then, Found, type_named, store_code, is_store, type_kept, beginning, leaf_plan, of_target, leaf_typed, term_typed, join_store, starts_at, join_typed, Operands, with_first, of_operands, list_typed, is_other, typed, operands_typed, IsFault}
 use Rattle.query_check.specs.Verticals.{IsKeyOf, IsType, IsOf, AreOf}
 use Rattle.query_check.specs.Laws.{TypedIsDeclared}

@@ -1,14 +1,15 @@
 -- Operands that are typed from the left.
-use Rattle.std.proofs.Common.{◌≡◌, ℕ, ◌+◌, Bool, true, false, cond, List, [], ◌∷◌, ◌++◌, Option, None, Some, Result, Ok, Err, refl, sym, ap, ◌∙◌, subst, append_assoc}
+use Rattle.std.proofs.Common.{◌≡◌, ℕ, Bool, true, false, cond, List, [], ◌∷◌, ◌++◌, Option, None, Some, Result, Ok, Err, refl, sym, ap, ◌∙◌, subst, append_assoc}
 use Rattle.query_tree.specs.declared.query.Mark.{Mark}
 use Rattle.query_tree.specs.declared.refusal.QueryRefusal.{QueryRefusal}
 use Rattle.query_tree.specs.declared.refusal.QueryRefusal.TheVariants.{Fault, Memory}
 use Rattle.query_tree.specs.Tree.{Tree, Forest, no_operands, with_operand}
 use Rattle.query_tree.specs.Columns.{column_of}
 use Rattle.uni_schema.specs.Schema.{Declarations}
-use Rattle.query_check.specs.Plan.{Plan, Plans, no_plans, with_plan, Stated, Seen, SeenOperand, plans_of, all_inner}
+use Rattle.query_check.specs.Plan.{Plans, no_plans, with_plan, Stated, Seen, SeenOperand, plans_of, all_inner}
 use Rattle.query_check.specs.Typing.{Mistyped, mistyped, Operands, with_first, and_then, is_other, typed, operands_typed, IsFault}
 use Rattle.query_check.specs.Verticals.{AreStated}
+use Rattle.query_check.proofs.Faults.{fault_first}
 
 -- plans one after the other
 abbrev pub chained : Plans → Plans → Plans
@@ -77,11 +78,6 @@ fault_after : (front : Plans) (due : Result Operands Mistyped) (refusal : QueryR
 fault_after front due (Fault code column) fault = ap (after_plans front) fault
 fault_after front due Memory fault = tt
 
-fault_of : {A B : Type 0} (due : Result A Mistyped) (later : A → Result B Mistyped) (refusal : QueryRefusal)
-    → IsFault due refusal → IsFault (and_then due later) refusal
-fault_of due later (Fault code column) fault = ap (λ (d : Result _ Mistyped). and_then d later) fault
-fault_of due later Memory fault = tt
-
 pub due_fault : (schema : Declarations) (joins around : ℕ) (due : Result Operands Mistyped) (front : List SeenOperand) (before : Option ℕ)
     (node : Tree) (mark : Mark) (others : Forest) (refusal : QueryRefusal)
     → IsFault (typed schema joins around node) refusal → Due schema joins around due front before (with_operand node mark others)
@@ -89,7 +85,7 @@ pub due_fault : (schema : Declarations) (joins around : ℕ) (due : Result Opera
 due_fault schema joins around due front before node mark others refusal fault is_due =
     subst (λ (d : Result Operands Mistyped). IsFault d refusal) (sym is_due)
     (fault_after (plans_of front) (operands_typed schema joins around before (with_operand node mark others)) refusal
-    (fault_of (typed schema joins around node) _ refusal fault))
+    (fault_first (typed schema joins around node) _ refusal fault))
 
 pub due_other : (schema : Declarations) (joins around : ℕ) (due : Result Operands Mistyped) (front : List SeenOperand) (before : Option ℕ)
     (node : Tree) (mark : Mark) (others : Forest) (one : Stated)

@@ -5,12 +5,10 @@ use Rattle.query_tree.specs.declared.query.Operand.{Operand}
 use Rattle.query_tree.specs.declared.query.Query.TheViews.{out-Operand}
 use Rattle.query_tree.specs.Tree.{Marked, no_operands, with_operand, tree_of, operands_of}
 use Rattle.query_tree.proofs.Folds.{operand_is}
-use Rattle.uni_schema.specs.Schema.{Declarations}
 use Rattle.query_check.specs.declared.checked.Checked.{Checked}
 use Rattle.query_check.specs.declared.checked.CheckedNode.TheViews.{out-Checked}
 use Rattle.query_check.specs.declared.checked.CheckedNode.TheFolds.{fold_out-Checked}
-use Rattle.query_check.specs.Plan.{Stated, Seen, SeenQuery, SeenOperand, node_step, query_step, operand_step, seen, seen_node}
-use Rattle.query_check.specs.Verticals.{AreStated}
+use Rattle.query_check.specs.Plan.{Seen, SeenQuery, SeenOperand, node_step, query_step, operand_step, seen, seen_node}
 
 -- a query with its vertical over its node
 abbrev pub over : Seen → ℕ → SeenQuery

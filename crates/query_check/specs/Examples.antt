@@ -1,5 +1,5 @@
 -- Queries with what they are under a schema, and with their first faults, by computation.
-use Rattle.std.specs.Prelude.{ℕ, ◌≡◌, ◌+◌, List, [], ◌∷◌, codes, Ok, Err}
+use Rattle.std.specs.Prelude.{ℕ, ◌≡◌, ◌+◌, false, List, [], ◌∷◌, codes, Ok, Err}
 use Rattle.uni_base.specs.declared.edge.Key.TheVariants.{Id, Word}
 use Rattle.uni_schema.specs.Schema.{Declarations}
 use Rattle.uni_schema.specs.declared.schema.TypeDef.{TypeDef}
@@ -11,7 +11,6 @@ use Rattle.uni_schema.specs.declared.schema.Store.{Store}
 use Rattle.uni_schema.specs.declared.schema.Store.TheVariants.{Index, Forward}
 use Rattle.query_tree.specs.declared.kind.TermKind.TheVariants.{Whole, Prefix}
 use Rattle.query_tree.specs.declared.kind.ListKind.TheVariants.{And, WeakAnd}
-use Rattle.query_tree.specs.declared.kind.JoinKind.{JoinKind}
 use Rattle.query_tree.specs.declared.kind.JoinKind.TheVariants.{Apply, Extract}
 use Rattle.query_tree.specs.declared.query.Mark.TheVariants.{Plain, Weight}
 use Rattle.query_tree.specs.Tree.{Tree, term_at, list_at, join_at, no_operands, with_operand}
@@ -20,12 +19,13 @@ use Rattle.query_check.specs.Typing.{typed}
 
 abbrev type_def : List ℕ → Origin → ℕ → Owner → Store → TypeDef
 type_def name origin target owner store =
-    record { name = name; origin = origin; target = target; owner = owner; store = store }
+    record { name = name; origin = origin; target = target; owner = owner; store = store; deny = false }
 
 -- people, with friends, and the towns where they live; photos, with whom they were tagged by, and whom
 -- they show
 abbrev pub album : Declarations
 album = record {
+  format = 2;
   verticals =
       record { name = codes "user"; shards = 2; replicas = 2 } ∷ record { name = codes "photo"; shards = 1; replicas = 1 } ∷ [];
   types =

@@ -172,7 +172,8 @@ fn push_operand(
     mark: Mark,
 ) -> Result<(), QueryRefusal>
     ensures { MatchResult result
-        (λ done. operands_seen operands.new.items ≡ operands_seen operands.old.items ++ record { node = seen_node node; mark = mark } ∷ [])
+        (λ done. operands_seen operands.new.items
+        ≡ operands_seen operands.old.items ++ record { node = seen_node node; mark = mark } ∷ [])
         (λ refusal. refusal ≡ QueryRefusal.Memory) }
 {
     match operands.push(CheckedOperand { node, mark }) {

@@ -1,5 +1,7 @@
 -- The forms of the atoms that a print has.
 use Rattle.std.proofs.Common.{◌≡◌, ℕ, ◌+◌, ◌%◌, ◌^◌, ◌<◌, ◌≤◌, ◌==◌, ◌&&◌, ◌||◌, not, true, false, cond, List, [], ◌∷◌, ◌++◌, length, get_or, Option, Some, None, is_some, refl, sym, ap, ◌∙◌, subst, arith, inl, inr, append_assoc, decimal}
+use Rattle.std.proofs.lemmas.Bool.{and_parts}
+use Rattle.std.proofs.Math.Bool.{and-false}
 use Rattle.std.specs.Prelude.{nat_le}
 use Rattle.std.specs.List.{list_all}
 use Rattle.std.specs.Str.Parse.{digits_value}
@@ -22,7 +24,7 @@ use Rattle.query_reader.specs.Tokens.{is_atom_byte}
 use Rattle.query_reader.specs.Values.{hits_of, weight_over, weight_between, weight_of}
 use Rattle.query_reader.specs.Reading.{key_of, both_words, pair_of, front_word, prefix_of}
 use Rattle.query_reader.specs.Grammar.{atom_of}
-use Rattle.query_reader.proofs.Bytes.{both-true, and-false, all-weaker, not-all, other_than, uncut, cut-first, word-atom, word-no_colon, word-no_star, digit-atom, digit-no_colon, digit-no_slash, digit-no_letter}
+use Rattle.query_reader.proofs.Bytes.{all-weaker, not-all, other_than, uncut, cut-first, word-atom, word-no_colon, word-no_star, digit-atom, digit-no_colon, digit-no_slash, digit-no_letter}
 
 -- a text is an atom of a kind: its bytes are those of atoms, there is one, and it is in the kind's form
 pub record IsAtom (format : ℕ) (bytes : List ℕ) (kind : TokenKind) : Type 0 where
@@ -33,7 +35,7 @@ pub record IsAtom (format : ℕ) (bytes : List ℕ) (kind : TokenKind) : Type 0 
 -- the bytes of a word
 pub word-bytes : (text : List ℕ) → is_word text ≡ true → list_all is_word_byte text ≡ true
 word-bytes text word =
-    (both-true (nat_le 1 (length text) && nat_le (length text) 32) (list_all is_word_byte text) word).1
+    (and_parts (nat_le 1 (length text) && nat_le (length text) 32) (list_all is_word_byte text) word).1
 
 pub word-some : (text : List ℕ) → is_word text ≡ true → 0 < length text
 word-some [] word = absurd (cc)
@@ -220,7 +222,7 @@ decimal-within least most n small above below =
 digits-no_name : (text : List ℕ) → list_all is_digit text ≡ true → is_name text ≡ false
 digits-no_name [] all = refl
 digits-no_name (c ∷ cs) all =
-    ap (λ b. is_word (c ∷ cs) && b) (digit-no_letter c (both-true (is_digit c) (list_all is_digit cs) all).0)
+    ap (λ b. is_word (c ∷ cs) && b) (digit-no_letter c (and_parts (is_digit c) (list_all is_digit cs) all).0)
     ∙ and-false (is_word (c ∷ cs))
 
 pub number-atom : (format n : ℕ) → n ≤ 1000000 → IsAtom format (decimal n) kinds.Number

@@ -1,24 +1,18 @@
 -- Texts of bytes of one kind.
 use Rattle.std.proofs.Common.{◌≡◌, ℕ, ◌==◌, ◌&&◌, not, Bool, true, false, List, [], ◌∷◌, ◌++◌, Some, None, refl, ap, ◌∙◌, arith}
 use Rattle.std.specs.List.{list_all}
+use Rattle.std.proofs.Math.Bool.{and-false}
+use Rattle.std.proofs.lemmas.Bool.{and_parts}
 use Rattle.std.proofs.lemmas.Bool.Decides.{nat_tests}
 use Rattle.std.proofs.lemmas.List.Folds.{list_all-append}
 use Rattle.uni_base.specs.Words.{is_letter, is_digit, is_word_byte}
 use Rattle.uni_base.specs.Fields.{cut_at}
 use Rattle.query_reader.specs.Tokens.{is_atom_byte}
 
-pub both-true : (a b : Bool) → (a && b) ≡ true → (a ≡ true) × (b ≡ true)
-both-true true b both = (refl, both)
-both-true false b both = absurd (cc)
-
-pub and-false : (a : Bool) → (a && false) ≡ false
-and-false true = refl
-and-false false = refl
-
 pub all-weaker : (p q : ℕ → Bool) → ((c : ℕ) → p c ≡ true → q c ≡ true) → (text : List ℕ) → list_all p text ≡ true → list_all q text ≡ true
 all-weaker p q weaker [] all = refl
 all-weaker p q weaker (c ∷ cs) all =
-    let parts = both-true (p c) (list_all p cs) all in
+    let parts = and_parts (p c) (list_all p cs) all in
     ap (λ b. b && list_all q cs) (weaker c parts.0) ∙ all-weaker p q weaker cs parts.1
 
 -- one byte that does not pass
@@ -39,14 +33,14 @@ not-true false is_not = refl
 pub uncut : (separator : ℕ) (text : List ℕ) → list_all (other_than separator) text ≡ true → cut_at separator text ≡ None
 uncut separator [] all = refl
 uncut separator (c ∷ cs) all =
-    let parts = both-true (other_than separator c) (list_all (other_than separator) cs) all in
+    let parts = and_parts (other_than separator c) (list_all (other_than separator) cs) all in
     rw (not-true (c == separator) parts.0, uncut separator cs parts.1) refl
 
 pub cut-first : (separator : ℕ) (front back : List ℕ) → list_all (other_than separator) front ≡ true
     → (separator == separator) ≡ true → cut_at separator (front ++ separator ∷ back) ≡ Some (front, back)
 cut-first separator [] back all same = rw same refl
 cut-first separator (c ∷ cs) back all same =
-    let parts = both-true (other_than separator c) (list_all (other_than separator) cs) all in
+    let parts = and_parts (other_than separator c) (list_all (other_than separator) cs) all in
     rw (not-true (c == separator) parts.0, cut-first separator cs back parts.1 same) refl
 
 -- the bytes of words and of digits

@@ -25,3 +25,4 @@ pub mod Printed
 pub mod SpelledWithin
 pub mod PrintLength
 pub mod PrintRead
+pub mod Formats

@@ -1,5 +1,6 @@
 -- Options, as the reading stands for them.
 use Rattle.std.proofs.Common.{◌≡◌, ℕ, Bool, true, false, List, [], ◌∷◌, ◌++◌, Option, None, Some, refl, sym, ap, ◌∙◌, subst, cond, inl, inr, append_assoc, append-nil}
+use Rattle.std.proofs.lemmas.Bool.{and_parts}
 use Rattle.std.specs.Prelude.{◌&&◌, is_none}
 use Rattle.std.specs.Option.{option_map, option_and_then}
 use Rattle.uni_base.specs.Fields.{cut_at}
@@ -21,7 +22,6 @@ use Rattle.query_reader.specs.Values.{option_of, weight_over, weight_between}
 use Rattle.query_reader.specs.Reading.{Lexeme, Part, operator_due, term_due, term_read, operands_read, prefix_due, node_due, node_read, OpenList, refuse, going_on, parent_kind, is_join, is_plain, may_take, option_found, option_token, with_limit, with_mark, limit_value, mark_value, value_token}
 use Rattle.query_reader.specs.Grammar.{IsOption, LimitSpells, MarkSpells, OptionsSpell, MayHave}
 use Rattle.query_reader.proofs.Standing.{IsOfKind, kind_stands, PartSpells, LimitStands, Endable, TailSpells, Waiting, Holds}
-use Rattle.query_reader.proofs.Bytes.{both-true}
 
 -- whether an option may stand does not depend on what is due
 pub may_same : (format : ℕ) (name : OptionName) (list : OpenList) (parent : Option ListKind) (tail : Tail)
@@ -103,7 +103,7 @@ pub mark_may : (dialect : Dialect) (list : OpenList) (kind : MarkKind) (parent :
     → ((mark : Mark) → IsOfKind kind mark → MayHave dialect parent mark) × (list.mark ≡ Plain)
 mark_may dialect list kind None may = absurd (cc)
 mark_may dialect list kind (Some operator) may =
-    let both = both-true (may_mark dialect.format operator kind) (is_plain list.mark) may in
+    let both = and_parts (may_mark dialect.format operator kind) (is_plain list.mark) may in
     (λ mark of_kind. kind_stands dialect.format operator kind mark of_kind both.0, plain_may list.mark both.1)
 
 -- a value after its option's name

@@ -1,5 +1,6 @@
 -- How long a print is.
 use Rattle.std.proofs.Common.{◌≡◌, ℕ, ◌+◌, ◌*◌, ◌<◌, ◌≤◌, ◌==◌, ◌&&◌, Bool, true, false, cond, List, [], ◌++◌, length, refl, arith, length-append, leb-true, codes, decimal}
+use Rattle.std.proofs.lemmas.Bool.{and_parts}
 use Rattle.std.specs.Prelude.{nat_le}
 use Rattle.std.specs.List.{list_all}
 use Rattle.std.proofs.lemmas.Fmt.{length-decimal-le}
@@ -18,7 +19,6 @@ use Rattle.query_tree.specs.Size.{node_count, operand_nodes}
 use Rattle.query_tree.specs.Text.{key_text, list_name, join_name, mark_text, default_limit, limit_text, pair_text, node_text, operands_text}
 use Rattle.query_tree.specs.Marks.{IsMarkValue}
 use Rattle.query_tree.specs.Within.{IsTypeName, IsKeyText, IsJoinLimit, IsAllowed, AreAllowed}
-use Rattle.query_reader.proofs.Bytes.{both-true}
 
 -- parts of a text, one after the other
 length-three : (a b c : List ℕ) → length ((a ++ b) ++ c) ≡ (length a + length b) + length c
@@ -30,8 +30,8 @@ length-four a b c d = omega (arith, length-append ((a ++ b) ++ c) d, length-thre
 -- a word, and a number up to a million
 word_short : (text : List ℕ) → is_word text ≡ true → length text ≤ 32
 word_short text word =
-    let bounds = (both-true (nat_le 1 (length text) && nat_le (length text) 32) (list_all is_word_byte text) word).0 in
-    leb-true (length text) 32 (both-true (nat_le 1 (length text)) (nat_le (length text) 32) bounds).1
+    let bounds = (and_parts (nat_le 1 (length text) && nat_le (length text) 32) (list_all is_word_byte text) word).0 in
+    leb-true (length text) 32 (and_parts (nat_le 1 (length text)) (nat_le (length text) 32) bounds).1
 
 number_short : (n : ℕ) → n ≤ 1000000 → length (decimal n) ≤ 7
 number_short n small = length-decimal-le 7 n (omega arith) (omega arith) (omega arith)

@@ -3,7 +3,7 @@ use Rattle.std.proofs.Common.{◌≡◌, ℕ, ◌+◌, List, [], ◌∷◌, ◌+
 use Rattle.query_reader.specs.declared.token.Token.{Token}
 use Rattle.query_reader.specs.declared.token.TokenKind.{TokenKind}
 use Rattle.query_reader.specs.declared.token.TokenKind.TheVariants as kinds
-use Rattle.query_reader.specs.Tokens.{pieces, token_of, tokens_of, text_tokens}
+use Rattle.query_reader.specs.Tokens.{token_of, text_tokens}
 use Rattle.query_reader.specs.Spans.{AreSpaces, IsToken, a_left, a_right, an_atom, HasTokens, AreTokensOf, BeginsBad, IsFirstBad, TokensAreRuns}
 use Rattle.query_reader.proofs.Pieces.{after}
 use Rattle.query_reader.proofs.Segments.{read_tokens, left_read, right_read, atom_read, bad_read}

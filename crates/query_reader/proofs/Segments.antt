@@ -1,5 +1,6 @@
 -- The tokens of a part of a text.
 use Rattle.std.proofs.Common.{◌≡◌, ℕ, ◌+◌, ◌<◌, true, cond, List, [], ◌∷◌, ◌++◌, map, length, take, drop, get_or, Option, Some, None, Result, Ok, Err, refl, sym, ap, ◌∙◌, subst, arith, append_assoc, length-append, drop-drop}
+use Rattle.std.proofs.lemmas.Bool.{and_parts}
 use Rattle.std.specs.List.{take_while, list_all}
 use Rattle.std.proofs.Math.Seq.{drop-append_seam, take-append_seam}
 use Rattle.std.proofs.lemmas.List.Sums.{take_while-cons}
@@ -12,7 +13,6 @@ use Rattle.query_reader.specs.Tokens.{is_atom_byte, front, Piece, pieces, kind_o
 use Rattle.query_reader.specs.Reading.{Lexeme, lexeme_of}
 use Rattle.query_reader.proofs.Pieces.{after, pieces-token}
 use Rattle.query_reader.proofs.SpansLemmas.{atom_kind_of}
-use Rattle.query_reader.proofs.Bytes.{both-true}
 use Rattle.query_reader.proofs.AtomForms.{IsAtom}
 
 -- the tokens of a text that begins at a place
@@ -105,27 +105,27 @@ run-ends (c ∷ cs) ends = rw (take_while-cons, ends) refl
 run-is : (bytes rest : List ℕ) → list_all is_atom_byte bytes ≡ true → AtomEnds rest → take_while is_atom_byte (bytes ++ rest) ≡ bytes
 run-is [] rest all ends = run-ends rest ends
 run-is (c ∷ cs) rest all ends =
-    let split = both-true (is_atom_byte c) (list_all is_atom_byte cs) all in
+    let split = and_parts (is_atom_byte c) (list_all is_atom_byte cs) all in
     rw (take_while-cons, split.0, run-is cs rest split.1 ends) refl
 
 front-is : (bytes rest : List ℕ) → 0 < length bytes → list_all is_atom_byte bytes ≡ true → AtomEnds rest → front (bytes ++ rest) ≡ bytes
 front-is [] rest some all ends = absurd (omega arith)
 front-is (c ∷ cs) rest some all ends =
-    let split = both-true (is_atom_byte c) (list_all is_atom_byte cs) all in
+    let split = and_parts (is_atom_byte c) (list_all is_atom_byte cs) all in
     ap (λ b. cond b (c ∷ take_while is_atom_byte (cs ++ rest)) (c ∷ [])) split.0
     ∙ ap (λ run. c ∷ run) (run-is cs rest split.1 ends)
 
 no_space : (bytes rest : List ℕ) → 0 < length bytes → list_all is_atom_byte bytes ≡ true → get_or (bytes ++ rest) 0 0 ≡ 32 → ⊥
 no_space [] rest some all space = absurd (omega arith)
 no_space (c ∷ cs) rest some all space =
-    let split = both-true (is_atom_byte c) (list_all is_atom_byte cs) all in
+    let split = and_parts (is_atom_byte c) (list_all is_atom_byte cs) all in
     let here : is_atom_byte 32 ≡ true = sym (ap is_atom_byte space) ∙ split.0 in
     absurd (cc)
 
 pub kind-is : (format : ℕ) (bytes rest : List ℕ) (kind : TokenKind) → IsRun bytes rest → atom_kind format bytes ≡ Some kind → kind_of format bytes ≡ Some kind
 kind-is format [] rest kind run form = absurd (omega (arith, run.some))
 kind-is format (c ∷ cs) rest kind run form =
-    atom_kind_of format c cs (both-true (is_atom_byte c) (list_all is_atom_byte cs) run.all).0 ∙ form
+    atom_kind_of format c cs (and_parts (is_atom_byte c) (list_all is_atom_byte cs) run.all).0 ∙ form
 
 -- the first token of a text
 abbrev FirstRead : ℕ → ℕ → List ℕ → List ℕ → TokenKind → Type 0
@@ -162,7 +162,7 @@ bad_read format at [] rest run form = absurd (omega (arith, run.some))
 bad_read format at (c ∷ cs) rest run form =
     run_read format at (c ∷ cs) rest run
     ∙ ap (λ (k : Option TokenKind). with_piece (record { from = at; bytes = c ∷ cs }) k (read_tokens format (at + length (c ∷ cs)) rest))
-    (atom_kind_of format c cs (both-true (is_atom_byte c) (list_all is_atom_byte cs) run.all).0 ∙ form)
+    (atom_kind_of format c cs (and_parts (is_atom_byte c) (list_all is_atom_byte cs) run.all).0 ∙ form)
 
 pub left : (format : ℕ) (whole : List ℕ) (at : ℕ) (rest : List ℕ) → drop at whole ≡ 40 ∷ rest
     → Segment format whole at (40 ∷ []) rest (lexeme at kinds.Left (40 ∷ []) ∷ [])

@@ -1,5 +1,6 @@
 -- What a text spells is within the limits.
 use Rattle.std.proofs.Common.{◌≡◌, ℕ, ◌+◌, ◌-◌, ◌≤◌, ◌==◌, ◌&&◌, max, Bool, true, false, cond, List, [], ◌∷◌, ◌++◌, map, length, take, drop, Option, None, Some, is_some, Result, Ok, Err, refl, sym, ap, ◌∙◌, subst, arith, inl, inr, drop-drop, leb-true}
+use Rattle.std.proofs.lemmas.Bool.{and_parts}
 use Rattle.std.specs.Prelude.{nat_le, unwrap_or, slice_range, IfOk}
 use Rattle.std.proofs.lemmas.Bool.Decides.{nat_tests}
 use Rattle.std.proofs.Math.Seq.{drop-append_seam, take-append_seam}
@@ -11,7 +12,7 @@ use Rattle.std.specs.Option.{option_and_then, option_map, option_or}
 use Rattle.uni_base.specs.Numbers.{is_number, number_of, number_between}
 use Rattle.uni_base.specs.Fields.{cut_at}
 use Rattle.query_tree.specs.declared.kind.ListKind.{ListKind}
-use Rattle.query_tree.specs.Marks.{MayStand, IsMarkValue}
+use Rattle.query_tree.specs.Marks.{IsMarkValue}
 use Rattle.query_tree.specs.declared.query.Mark.{Mark}
 use Rattle.query_tree.specs.declared.query.Mark.TheVariants.{Plain, Hits, Weight}
 use Rattle.query_tree.specs.declared.query.Query.{Query}
@@ -22,18 +23,17 @@ use Rattle.query_tree.specs.Within.{IsTypeName, IsKeyText, MayBegin, IsJoinLimit
 use Rattle.query_reader.specs.declared.token.Token.{Token}
 use Rattle.query_reader.specs.declared.token.TokenKind.{TokenKind}
 use Rattle.query_reader.specs.declared.token.TokenKind.TheVariants as kinds
-use Rattle.query_reader.specs.Atoms.{is_name, is_empty, before_star, starred_word, key_kind, pair_kind, colon_kind, slash_kind}
+use Rattle.query_reader.specs.Atoms.{is_name, is_empty, before_star, starred_word, colon_kind, slash_kind}
 use Rattle.query_reader.specs.Tokens.{kind_of}
 use Rattle.query_reader.specs.Spans.{IsToken, a_left, a_right, an_atom, AreSpaces, HasTokens}
 use Rattle.query_reader.specs.Values.{weight_over, weight_between}
 use Rattle.query_reader.specs.Reading.{Lexeme, key_of, both_words, front_word, lexeme_of, text_read}
 use Rattle.query_reader.specs.Seen.{IsAnswer}
 use Rattle.query_reader.specs.Depth.{open_after, most_open}
-use Rattle.query_reader.specs.Grammar.{atom_of, LimitSpells, MarkSpells, OptionsSpell, MayHave, NodeSpells, ForestSpells, QuerySpells, IsTerm, IsPrefix}
+use Rattle.query_reader.specs.Grammar.{atom_of, LimitSpells, MarkSpells, OptionsSpell, NodeSpells, ForestSpells, QuerySpells, IsTerm, IsPrefix}
 use Rattle.query_reader.specs.TextLaws.{SpelledIsWithin}
 use Rattle.query_reader.proofs.TextSound.{text_sound}
 use Rattle.query_reader.proofs.Balance.{opened, most-first, most-append, balanced-node}
-use Rattle.query_reader.proofs.Bytes.{both-true}
 use Rattle.query_reader.proofs.Segments.{kind-is, parts}
 
 -- each token has the kind of its bytes
@@ -135,7 +135,7 @@ star_if : (b : Bool) (parts : List ℕ × List ℕ) (word : List ℕ) → (is_wo
     → is_word word ≡ true
 star_if true parts word is_parts is_some =
     let same : parts.0 ≡ word = cc in
-    subst (λ (w : List ℕ). is_word w ≡ true) same (both-true (is_word parts.0) (is_empty parts.1) is_parts).0
+    subst (λ (w : List ℕ). is_word w ≡ true) same (and_parts (is_word parts.0) (is_empty parts.1) is_parts).0
 star_if false parts word is_parts is_some = absurd (cc)
 
 star_word : (cut : Option (List ℕ × List ℕ)) (word : List ℕ) → before_star cut ≡ Some word → is_word word ≡ true
@@ -184,7 +184,7 @@ front_cut (Some halves) name is_front =
     let same = front_if (is_word halves.0) halves name is_front in (halves.1, ap (λ xs. Some (xs, halves.1)) same)
 
 type-name : (text : List ℕ) → is_name text ≡ true → IsTypeName text
-type-name text name = both-true (is_word text) (starts_with_letter text) name
+type-name text name = and_parts (is_word text) (starts_with_letter text) name
 
 has_name : (kind : TermKind) → HasName (atom_of kind)
 has_name terms.Whole = tt
@@ -196,7 +196,7 @@ is_two n is_true = grind (arith, nat_tests)
 
 may_begin : (format : ℕ) (kind : TermKind) (back : List ℕ) → IfStem (atom_of kind) ((format == 2) && is_some (starred_word back)) → MayBegin format kind
 may_begin format terms.Whole back starred = tt
-may_begin format terms.Prefix back starred = is_two format (both-true (format == 2) (is_some (starred_word back)) starred).0
+may_begin format terms.Prefix back starred = is_two format (and_parts (format == 2) (is_some (starred_word back)) starred).0
 
 term_words : (format column : ℕ) (kind : TermKind) (type_name key : List ℕ) (token : Lexeme) → kind_of format token.bytes ≡ Some token.kind
     → IsTerm column kind type_name key token → IsTypeName type_name × IsKeyText key × MayBegin format kind
@@ -215,7 +215,7 @@ prefix_word format column type_name token formed (is_kind, is_column, is_prefix)
 range_if : (least most m n : ℕ) (b : Bool) → (nat_le least m && nat_le m most) ≡ b → cond b (Some m) None ≡ Some n → (least ≤ n) × (n ≤ most)
 range_if least most m n true is_within is_value =
     let same : m ≡ n = cc in
-    let tests = both-true (nat_le least m) (nat_le m most) is_within in
+    let tests = and_parts (nat_le least m) (nat_le m most) is_within in
     (omega (arith, leb-true least m tests.0), omega (arith, leb-true m most tests.1))
 range_if least most m n false is_within is_value = absurd (cc)
 

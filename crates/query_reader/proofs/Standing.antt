@@ -7,7 +7,6 @@ use Rattle.query_tree.specs.declared.kind.MarkKind.TheVariants as mark_kinds
 use Rattle.query_tree.specs.declared.kind.TermKind.{TermKind}
 use Rattle.query_tree.specs.declared.kind.TermKind.TheVariants as terms
 use Rattle.query_tree.specs.declared.kind.ListKind.{ListKind}
-use Rattle.query_tree.specs.declared.kind.ListKind.TheVariants.{And, Or, Difference, WeakAnd, StrongOr}
 use Rattle.query_tree.specs.declared.query.Mark.{Mark}
 use Rattle.query_tree.specs.declared.query.Mark.TheVariants.{Plain, Hits, Weight}
 use Rattle.query_tree.specs.Tree.{Tree, Forest, term_at, no_operands, with_operand}

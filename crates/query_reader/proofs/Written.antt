@@ -4,7 +4,6 @@ use Rattle.std.specs.Prelude.{unwrap_or}
 use Rattle.std.proofs.lemmas.Bool.Decides.{eqb_tells}
 use Rattle.query_tree.specs.declared.dialect.Dialect.{Dialect}
 use Rattle.query_tree.specs.declared.kind.TermKind.{TermKind}
-use Rattle.query_tree.specs.declared.kind.TermKind.TheVariants as terms
 use Rattle.query_tree.specs.declared.kind.ListKind.{ListKind}
 use Rattle.query_tree.specs.declared.kind.ListKind.TheVariants as lists
 use Rattle.query_tree.specs.declared.kind.JoinKind.{JoinKind}

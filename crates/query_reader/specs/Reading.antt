@@ -1,6 +1,6 @@
 -- A query read from the left, with a list of the open lists.
-use Rattle.std.specs.Prelude.{ℕ, ◌≡◌, Bool, true, false, ◌&&◌, ◌+◌, nat_le, nat_lt, is_none, slice_range, map, List, [], ◌∷◌, length, Option, Some, None, unwrap_or, Result, Ok, Err, if◌then◌else◌}
-use Rattle.std.specs.Option.{option_and_then, option_map}
+use Rattle.std.specs.Prelude.{ℕ, ◌≡◌, Bool, true, false, ◌&&◌, ◌+◌, nat_le, nat_lt, is_none, slice_range, map, List, [], ◌∷◌, length, Option, Some, None, unwrap_or, ok_or, Result, Ok, Err, if◌then◌else◌}
+use Rattle.std.specs.Option.{option_and_then, option_map, option_map_or}
 use Rattle.uni_base.specs.Words.{is_word}
 use Rattle.uni_base.specs.Fields.{cut_at}
 use Rattle.uni_base.specs.Numbers.{number_between}
@@ -121,8 +121,8 @@ begin_list dialect lists nodes token =
     )
 
 abbrev pub bare_term : List OpenList → ℕ → Lexeme → TermKind → Option (List ℕ × List ℕ) → Result State Refused
-bare_term lists nodes token kind None = refuse 31 token
-bare_term lists nodes token kind (Some pair) = deliver lists nodes (term_at token.column kind pair.0 pair.1) marks.Plain
+bare_term lists nodes token kind words =
+    option_map_or (λ pair. deliver lists nodes (term_at token.column kind pair.0 pair.1) marks.Plain) words (refuse 31 token)
 
 -- a bare term is a node
 abbrev pub begin_term : Dialect → List OpenList → ℕ → Lexeme → TermKind → Result State Refused
@@ -149,8 +149,8 @@ abbrev pub with_part : OpenList → List OpenList → ℕ → Part → Result St
 with_part list lists nodes part = going_on (record list { part = part } ∷ lists) nodes
 
 abbrev pub operator_found : OpenList → List OpenList → ℕ → Lexeme → Option Operator → Result State Refused
-operator_found list lists nodes token None = refuse 34 token
-operator_found list lists nodes token (Some operator) = with_part list lists nodes (first_part operator)
+operator_found list lists nodes token name =
+    option_map_or (λ operator. with_part list lists nodes (first_part operator)) name (refuse 34 token)
 
 -- an operator's name is due
 abbrev pub operator_token : OpenList → List OpenList → ℕ → Lexeme → TokenKind → Result State Refused
@@ -158,9 +158,8 @@ operator_token list lists nodes token tokens.Name = operator_found list lists no
 operator_token list lists nodes token kind = refuse 34 token
 
 abbrev pub term_found : OpenList → List OpenList → ℕ → Lexeme → TermKind → Option (List ℕ × List ℕ) → Result State Refused
-term_found list lists nodes token kind None = refuse 31 token
-term_found list lists nodes token kind (Some pair) =
-    with_part list lists nodes (term_read token.column kind pair.0 pair.1)
+term_found list lists nodes token kind words =
+    option_map_or (λ pair. with_part list lists nodes (term_read token.column kind pair.0 pair.1)) words (refuse 31 token)
 
 -- a term's atom is due
 abbrev pub term_token : OpenList → List OpenList → ℕ → Lexeme → TokenKind → Result State Refused
@@ -172,8 +171,8 @@ term_token list lists nodes token tokens.Right = refuse 35 token
 term_token list lists nodes token kind = refuse 31 token
 
 abbrev pub prefix_found : OpenList → List OpenList → ℕ → Lexeme → JoinKind → Option (List ℕ) → Result State Refused
-prefix_found list lists nodes token join None = refuse 31 token
-prefix_found list lists nodes token join (Some name) = with_part list lists nodes (node_due join token.column name)
+prefix_found list lists nodes token join word =
+    option_map_or (λ name. with_part list lists nodes (node_due join token.column name)) word (refuse 31 token)
 
 -- a join's prefix is due
 abbrev pub prefix_token : OpenList → List OpenList → ℕ → Lexeme → JoinKind → TokenKind → Result State Refused
@@ -252,8 +251,7 @@ node_of dialect list (node_read join column type_name node) =
 node_of dialect list part = None
 
 abbrev pub closed : OpenList → List OpenList → ℕ → Lexeme → Option Tree → Result State Refused
-closed list lists nodes token None = refuse 36 token
-closed list lists nodes token (Some node) = deliver lists nodes node list.mark
+closed list lists nodes token ended = option_map_or (λ node. deliver lists nodes node list.mark) ended (refuse 36 token)
 
 abbrev pub close : Dialect → OpenList → List OpenList → ℕ → Lexeme → Result State Refused
 close dialect list lists nodes token = closed list lists nodes token (node_of dialect list list.part)
@@ -330,8 +328,7 @@ step dialect state token = step_in dialect state.open_lists state.whole state.no
 
 -- at the end the query is whole, or something is missing there
 abbrev pub ended : ℕ → Option Tree → Result Tree Refused
-ended column None = Err (record { code = 32; column = column })
-ended column (Some node) = Ok node
+ended column whole = ok_or whole (record { code = 32; column = column })
 
 abbrev pub go_on : Result State Refused → (State → Result Tree Refused) → Result Tree Refused
 go_on (Ok state) others = others state

@@ -2,7 +2,7 @@
 ghost use Rattle.query_reader.specs.FirstFault.{FaultIsFirst};
 ghost use Rattle.query_reader.specs.PrintLaws.{PrintIsRead};
 ghost use Rattle.query_reader.specs.Spans.{TokensAreRuns};
-ghost use Rattle.query_reader.specs.TextLaws.{SpelledIsWithin, OneQueryOrFault};
+ghost use Rattle.query_reader.specs.TextLaws.{OneQueryOrFault, SecondHasFirst, SpelledIsWithin};
 
 /// Every text has exactly one query or exactly one fault, and never both.
 #[tactic(auto, using(crate::proofs::TextLaws::query_or_fault))]
@@ -27,6 +27,12 @@ pub fn fault_is_first()
 #[tactic(auto, using(crate::proofs::SpelledWithin::spelled_is_within))]
 pub fn spelled_is_within()
     ensures { SpelledIsWithin }
+{}
+
+/// A text that spells a query in format 1 spells it in format 2 too.
+#[tactic(auto, using(crate::proofs::Formats::second_has_first))]
+pub fn second_has_first()
+    ensures { SecondHasFirst }
 {}
 
 /// The print of a query within a dialect is read as that query, equal but for columns.

@@ -46,7 +46,9 @@ pub(crate) fn begin_list(
     nodes: u64,
     token: &Lexeme<'_>,
 ) -> Result<State, QueryRefusal>
-    ensures { IsStep (begin_list dialect.now (all_open lists.items) nodes (token_of token.now)) result }
+    ensures { IsStep
+        (begin_list dialect.now (all_open lists.items) nodes (token_of token.now))
+        result }
 {
     if lists.len() as u64 >= dialect.depth {
         return refused(TOO_DEEP, token);
@@ -72,7 +74,9 @@ pub(crate) fn begin_term(
     token: &Lexeme<'_>,
     kind: TermKind,
 ) -> Result<State, QueryRefusal>
-    ensures { IsStep (begin_term dialect.now (all_open lists.items) nodes (token_of token.now) kind) result }
+    ensures { IsStep
+        (begin_term dialect.now (all_open lists.items) nodes (token_of token.now) kind)
+        result }
 {
     if nodes >= dialect.nodes {
         return refused(TOO_MANY_NODES, token);
@@ -98,7 +102,9 @@ pub(crate) fn node_token(
     token: &Lexeme<'_>,
     missing: u32,
 ) -> Result<State, QueryRefusal>
-    ensures { IsStep (node_token dialect.now (all_open lists.items) nodes (token_of token.now) missing token.now.kind) result }
+    ensures { IsStep
+        (node_token dialect.now (all_open lists.items) nodes (token_of token.now) missing token.now.kind)
+        result }
 {
     match token.kind {
         TokenKind::Left => begin_list(dialect, lists, nodes, token),

@@ -18,7 +18,9 @@ pub(crate) fn option_token(
     nodes: u64,
     token: &Lexeme<'_>,
 ) -> Result<State, QueryRefusal>
-    ensures { IsStep (option_token dialect.now (open_of list) (all_open lists.items) nodes (token_of token.now)) result }
+    ensures { IsStep
+        (option_token dialect.now (open_of list) (all_open lists.items) nodes (token_of token.now))
+        result }
 {
     match read_option(token.bytes) {
         Some(name) if may_take(dialect.format, name, &list, parent_kind(&lists)) => {
@@ -72,7 +74,9 @@ pub(crate) fn value_token(
     name: OptionName,
 ) -> Result<State, QueryRefusal>
     requires { dialect.now.join_limit < 2 ^ 32 }
-    ensures { IsStep (value_token dialect.now (open_of list) (all_open lists.items) nodes (token_of token.now) name) result }
+    ensures { IsStep
+        (value_token dialect.now (open_of list) (all_open lists.items) nodes (token_of token.now) name)
+        result }
 {
     match name {
         OptionName::Limit => with_limit(list, lists, nodes, token, limit_value(dialect, token)),
@@ -110,7 +114,9 @@ fn with_limit(
     token: &Lexeme<'_>,
     limit: Option<u32>,
 ) -> Result<State, QueryRefusal>
-    ensures { IsStep (with_limit (open_of list) (all_open lists.items) nodes (token_of token.now) limit) result }
+    ensures { IsStep
+        (with_limit (open_of list) (all_open lists.items) nodes (token_of token.now) limit)
+        result }
 {
     match limit {
         Some(limit) => {
@@ -129,7 +135,9 @@ fn with_mark(
     token: &Lexeme<'_>,
     mark: Option<Mark>,
 ) -> Result<State, QueryRefusal>
-    ensures { IsStep (with_mark (open_of list) (all_open lists.items) nodes (token_of token.now) mark) result }
+    ensures { IsStep
+        (with_mark (open_of list) (all_open lists.items) nodes (token_of token.now) mark)
+        result }
 {
     match mark {
         Some(mark) => {
@@ -149,7 +157,9 @@ pub(crate) fn end_token(
     nodes: u64,
     token: &Lexeme<'_>,
 ) -> Result<State, QueryRefusal>
-    ensures { IsStep (end_token dialect.now (open_of list) (all_open lists.items) nodes (token_of token.now) token.now.kind) result }
+    ensures { IsStep
+        (end_token dialect.now (open_of list) (all_open lists.items) nodes (token_of token.now) token.now.kind)
+        result }
 {
     match token.kind {
         TokenKind::Right => close(dialect, list, lists, nodes, token),
@@ -167,7 +177,9 @@ pub(crate) fn after_option(
     nodes: u64,
     token: &Lexeme<'_>,
 ) -> Result<State, QueryRefusal>
-    ensures { IsStep (after_option dialect.now (open_of list) (all_open lists.items) nodes (token_of token.now) token.now.kind) result }
+    ensures { IsStep
+        (after_option dialect.now (open_of list) (all_open lists.items) nodes (token_of token.now) token.now.kind)
+        result }
 {
     match token.kind {
         TokenKind::Right => close(dialect, list, lists, nodes, token),

@@ -42,7 +42,9 @@ pub(crate) fn operator_token(
     nodes: u64,
     token: &Lexeme<'_>,
 ) -> Result<State, QueryRefusal>
-    ensures { IsStep (operator_token (open_of list) (all_open lists.items) nodes (token_of token.now) token.now.kind) result }
+    ensures { IsStep
+        (operator_token (open_of list) (all_open lists.items) nodes (token_of token.now) token.now.kind)
+        result }
 {
     if token.kind != TokenKind::Name {
         return refused(UNKNOWN_OPERATOR, token);
@@ -63,7 +65,9 @@ pub(crate) fn term_token(
     nodes: u64,
     token: &Lexeme<'_>,
 ) -> Result<State, QueryRefusal>
-    ensures { IsStep (term_token (open_of list) (all_open lists.items) nodes (token_of token.now) token.now.kind) result }
+    ensures { IsStep
+        (term_token (open_of list) (all_open lists.items) nodes (token_of token.now) token.now.kind)
+        result }
 {
     match token.kind {
         TokenKind::Term => read_term(list, lists, nodes, token, TermKind::Whole),
@@ -106,7 +110,9 @@ pub(crate) fn prefix_token(
     token: &Lexeme<'_>,
     join: JoinKind,
 ) -> Result<State, QueryRefusal>
-    ensures { IsStep (prefix_token (open_of list) (all_open lists.items) nodes (token_of token.now) join token.now.kind) result }
+    ensures { IsStep
+        (prefix_token (open_of list) (all_open lists.items) nodes (token_of token.now) join token.now.kind)
+        result }
 {
     match token.kind {
         TokenKind::Prefix => match read_prefix(token.bytes) {
@@ -149,7 +155,9 @@ pub(crate) fn operands_token(
     kind: ListKind,
     count: u64,
 ) -> Result<State, QueryRefusal>
-    ensures { IsStep (operands_token dialect.now (open_of list) (all_open lists.items) nodes (token_of token.now) kind count token.now.kind) result }
+    ensures { IsStep
+        (operands_token dialect.now (open_of list) (all_open lists.items) nodes (token_of token.now) kind count token.now.kind)
+        result }
 {
     match token.kind {
         TokenKind::Left | TokenKind::Term | TokenKind::Stem

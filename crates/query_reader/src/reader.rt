@@ -156,7 +156,9 @@ pub(crate) fn close(
     nodes: u64,
     token: &Lexeme<'_>,
 ) -> Result<State, QueryRefusal>
-    ensures { IsStep (close dialect.now (open_of list) (all_open lists.items) nodes (token_of token.now)) result }
+    ensures { IsStep
+        (close dialect.now (open_of list) (all_open lists.items) nodes (token_of token.now))
+        result }
 {
     let mark = list.mark;
     match finished(*lists.allocator(), dialect, list)? {

@@ -45,7 +45,9 @@ fn tail_token(
     token: &Lexeme<'_>,
 ) -> Result<State, QueryRefusal>
     requires { dialect.now.join_limit < 2 ^ 32 }
-    ensures { IsStep (tail_token dialect.now (open_of list) (all_open lists.items) nodes (token_of token.now) list.tail) result }
+    ensures { IsStep
+        (tail_token dialect.now (open_of list) (all_open lists.items) nodes (token_of token.now) list.tail)
+        result }
 {
     match list.tail {
         Tail::NoOption => part_token(dialect, list, lists, nodes, token),
@@ -63,7 +65,9 @@ fn part_token(
     nodes: u64,
     token: &Lexeme<'_>,
 ) -> Result<State, QueryRefusal>
-    ensures { IsStep (part_token dialect.now (open_of list) (all_open lists.items) nodes (token_of token.now) (part_of list.part)) result }
+    ensures { IsStep
+        (part_token dialect.now (open_of list) (all_open lists.items) nodes (token_of token.now) (part_of list.part))
+        result }
 {
     match &list.part {
         Part::OperatorDue => operator_token(list, lists, nodes, token),

@@ -37,7 +37,10 @@ static REFUSED: [(&str, u64, u32, u32); 13] = [
 ];
 
 /// More texts, under the standard limits, with the same fault in both formats.
-static FAULTS: [(&str, u32, u32); 45] = [
+static FAULTS: [(&str, u32, u32); 48] = [
+    ("lives:*", 31, 1),
+    ("lives:rom**", 31, 1),
+    ("(strong-or (term friend:1 :optional-hits 1))", 36, 27),
     ("   ", 32, 4),
     ("\u{e9}", 31, 1),
     ("(and friend:\u{e9} a:1)", 31, 6),
@@ -90,7 +93,7 @@ static FAULTS: [(&str, u32, u32); 45] = [
 ];
 
 /// Texts that one format refuses: the format, and the fault there.
-static FORMATS: [(u32, &str, u32, u32); 18] = [
+static FORMATS: [(u32, &str, u32, u32); 16] = [
     (
         1,
         "(weak-and (term friend:1 :optional-weight 1/2) lives:rome)",
@@ -99,8 +102,6 @@ static FORMATS: [(u32, &str, u32, u32); 18] = [
     ),
     (1, "lives:rom*", 31, 1),
     (1, "(and friend:1 (term lives:rom*))", 31, 21),
-    (2, "lives:*", 31, 1),
-    (2, "lives:rom**", 31, 1),
     (2, "lives:rom*a", 31, 1),
     (2, "lives*", 31, 1),
     (2, "Lives:rom*", 31, 1),
@@ -260,8 +261,10 @@ fn refused_texts(rt: HostRuntime) -> Result<(), Fail> {
             nodes: *nodes,
             ..Limits::standard()
         };
-        let found = fault(&rt, rt.alloc(), &limits, 1, text.as_bytes())?;
-        assert_eq!(rt; found, Some((*code, *column)), "{text}");
+        for format in [1, 2] {
+            let found = fault(&rt, rt.alloc(), &limits, format, text.as_bytes())?;
+            assert_eq!(rt; found, Some((*code, *column)), "{text}");
+        }
     }
     Ok(())
 }

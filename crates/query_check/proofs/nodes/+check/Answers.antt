@@ -1,4 +1,4 @@
-use Rattle.std.proofs.Common.{◌+◌, ◌≤◌, List, length, None, arith, sym, ap, ◌∙◌, subst, ◌∷◌, Ok, drop, true, false}
+use Rattle.std.proofs.Common.{◌+◌, ◌≤◌, List, length, None, arith, sym, ap, ◌∙◌, subst, ◌∷◌, Ok, drop}
 use Rattle.std.proofs.lemmas.Result.{err_from_is_err_and}
 use Rattle.uni_schema.specs.declared.schema.Store.{Store}
 use Rattle.query_tree.specs.declared.query.Query.{Query}

@@ -1,5 +1,5 @@
 use Rattle.std.proofs.Common.{◌≡◌, None, drop}
-use Rattle.query_tree.specs.Tree.{listed_of, operands_of}
+use Rattle.query_tree.specs.Tree.{operands_of}
 use Rattle.query_check.specs.Verticals.{AreStated}
 use Rattle.query_check.specs.Plan.{all_inner, operands_seen, plans_of}
 use Rattle.query_check.specs.Typing.{operands_typed}

@@ -1,4 +1,4 @@
-use Rattle.std.proofs.Common.{◌≡◌, ◌<◌, ◌+◌, List, length, ap, ◌∙◌, sym, rules}
+use Rattle.std.proofs.Common.{◌<◌, ◌+◌, List, length, ap, ◌∙◌, sym, rules}
 use Rattle.query_reader.specs.Tokens.{pieces, tokens_of}
 use Rattle.query_reader.specs.declared.token.Token.{Token}
 use Rattle.query_reader.proofs.Pieces.{after, place-front, step-piece, step-space}
