@@ -1,0 +1,11 @@
+//! Cursors over what several cursors have, which keep quotas: along the keys in rank order, each is kept
+//! or refused by what was kept before it.
+#![tactic(auto)]
+
+mod fraction;
+mod mark;
+mod rule;
+mod walking;
+
+pub use fraction::Fraction;
+pub use mark::WeakMark;
