@@ -1,5 +1,6 @@
 -- Operands with their counters, one after the other.
-use Rattle.std.proofs.Common.{◌≡◌, ℕ, zero, suc, ◌+◌, ◌-◌, ◌<◌, ◌≤◌, Bool, true, false, ◌&&◌, ◌||◌, cond, List, [], ◌∷◌, refl, sym, ◌∙◌, ap, arith, length, map, get_or, set, drop, slice_get, Some, None}
+use Rattle.std.proofs.Common.{◌≡◌, ℕ, zero, suc, ◌+◌, ◌-◌, ◌<◌, ◌≤◌, Bool, true, false, ◌&&◌, ◌||◌, cond, List, [], ◌∷◌, refl, sym, ◌∙◌, ap, arith, length, map, get_or, set, drop, slice_get, Some, None, All}
+use Rattle.std.proofs.lemmas.List.Elements.{All-head, All-tail}
 use Rattle.std.specs.List.{list_any, list_all}
 use Rattle.uni_base.specs.declared.entity.DocKey.{DocKey}
 use Rattle.uni_base.specs.KeySets.{has_first, has_key, holders, united}
@@ -168,3 +169,11 @@ own_counted old new has next counts below = let e = ap (λ (c : Quota × ℕ). c
     by : (b : Bool) → (counted b (counter_of old)).1 ≤ old.own + 1
     by true = omega arith
     by false = omega arith
+
+-- counters of which none has counted yet
+pub fresh_counters : (counters : List Counter) → All (λ (c : Counter). c.own ≡ 0) counters → map counter_of counters ≡ map (λ (q : Quota). (q, 0)) (map (λ (c : Counter). quota_of c.allowance) counters)
+fresh_counters [] fresh = refl
+fresh_counters (c ∷ counters) fresh =
+    let own = All-head (λ (x : Counter). x.own ≡ 0) c counters fresh in
+    ap (λ (n : ℕ). (quota_of c.allowance, n) ∷ map counter_of counters) own
+    ∙ ap (λ (cs : List (Quota × ℕ)). (quota_of c.allowance, 0) ∷ cs) (fresh_counters counters (All-tail (λ (x : Counter). x.own ≡ 0) c counters fresh))

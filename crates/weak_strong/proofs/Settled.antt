@@ -1,6 +1,7 @@
 -- A walk that passes what it refuses.
 use Rattle.std.proofs.Common.{◌≡◌, ℕ, ◌+◌, ◌-◌, ◌*◌, ◌^◌, ◌<◌, ◌≤◌, Bool, true, false, ◌||◌, List, [], ◌∷◌, Option, None, Some, refl, sym, ◌∙◌, ap, subst, arith, length, map, get_or, slice_get, drop, All}
 use Rattle.std.proofs.lemmas.List.{get_or-map, length-map}
+use Rattle.std.proofs.lemmas.List.Elements.{All-map}
 use Rattle.std.specs.Ordering.{is_eq}
 use Rattle.uni_base.specs.declared.entity.DocKey.{DocKey}
 use Rattle.uni_base.specs.RankOrder.{doc_cmp}
@@ -51,13 +52,8 @@ owns_below counters kept next owns is = λ i d within.
     let here = owns i (counter_of d) (omega (arith, length-map counters counter_of)) in
     omega (arith, same, here)
 
-pub owns_up : (counters : List Counter) (next : ℕ) → All (λ (c : Counter). c.own ≤ next) counters → (d : Counter) → All (λ (c : Quota × ℕ). c.1 ≤ next) (map counter_of counters)
-owns_up counters next owns e = λ i d within.
-    let short = length-map counters counter_of in
-    let inside : i < length counters = omega (arith, short) in
-    let same = ap (λ (c : Quota × ℕ). c.1) (get_or-map counter_of counters i e d inside) in
-    let here = owns i e inside in
-    omega (arith, same, here)
+pub owns_up : (counters : List Counter) (next : ℕ) → All (λ (c : Counter). c.own ≤ next) counters → All (λ (c : Quota × ℕ). c.1 ≤ next) (map counter_of counters)
+owns_up counters next owns = All-map (λ (c : Quota × ℕ). c.1 ≤ next) counter_of counters owns
 
 -- one candidate is passed
 module _ (rule : Rule) (olds news : List (List DocKey)) (counters : List (Quota × ℕ)) (kept : ℕ) (passed : united news ≡ drop 1 (united olds)) (keeps : KeepsKeys (united news) olds news) where

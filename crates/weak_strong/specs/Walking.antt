@@ -23,3 +23,15 @@ IsSettled rule lists counters kept = (k : DocKey) → slice_get (united lists) 0
 abbrev pub walk_of : Rule → List (List DocKey) → List (Quota × ℕ) → ℕ → List DocKey
 walk_of Weak lists counters kept = weak_walk kept (walkers lists counters) (united lists)
 walk_of Strong lists counters kept = strong_walk kept (walkers lists counters) (united lists)
+
+-- a walk that is counted, and stands at a key that it keeps
+pub record IsWalking (rule : Rule) (lists : List (List DocKey)) (counters : List (Quota × ℕ)) (kept : ℕ) : Type 0 where
+  pub counted : IsCounted lists counters kept
+  pub settled : IsSettled rule lists counters kept
+
+-- the keys of a weak walk, and of a strong one
+abbrev pub weak_keys : List (List DocKey) → List (Quota × ℕ) → ℕ → List DocKey
+weak_keys lists counters kept = weak_walk kept (walkers lists counters) (united lists)
+
+abbrev pub strong_keys : List (List DocKey) → List (Quota × ℕ) → ℕ → List DocKey
+strong_keys lists counters kept = strong_walk kept (walkers lists counters) (united lists)

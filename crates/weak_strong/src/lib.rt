@@ -6,6 +6,8 @@ mod fraction;
 mod mark;
 mod rule;
 mod walking;
+mod weak;
 
 pub use fraction::Fraction;
 pub use mark::WeakMark;
+pub use weak::WeakAndCursor;
