@@ -5,9 +5,11 @@
 mod fraction;
 mod mark;
 mod rule;
+mod strong;
 mod walking;
 mod weak;
 
 pub use fraction::Fraction;
 pub use mark::WeakMark;
+pub use strong::StrongOrCursor;
 pub use weak::WeakAndCursor;
