@@ -13,3 +13,6 @@ pub use fraction::Fraction;
 pub use mark::WeakMark;
 pub use strong::StrongOrCursor;
 pub use weak::WeakAndCursor;
+
+#[cfg(test)]
+mod tests;
