@@ -7,7 +7,7 @@ use Rattle.uni_base.specs.RankOrder.{doc_cmp}
 use Rattle.uni_base.specs.Cursors.{is_before, IsRanked, keys_from}
 use Rattle.uni_base.specs.KeySets.{has_key, united, without, KeepsKeys}
 use Rattle.uni_base.proofs.RankedLemmas.{and_false, and_true, has_key-filter, has_key-not_before, IsRanked-filter, same_from_is_eq, same_from_keys}
-use Rattle.uni_base.proofs.UnitedLemmas.{KeepsKeys-filter, united-filter, without-head}
+use Rattle.uni_base.proofs.UnitedLemmas.{KeepsKeys_trans, KeepsKeys-filter, united-filter, without-head}
 use Rattle.set_cursors.specs.Filters.{common}
 use Rattle.set_cursors.specs.Firsts.{is_first, HasNoneBefore}
 use Rattle.set_cursors.proofs.Shared.{all_have, has_key-common, has_key-common-united, IsRanked-common}
@@ -34,13 +34,6 @@ common-filter p lists =
     by k false e =
         ap (λ b. (has_key (united lists) k && b) && all_have k (map (filter p) lists)) e ∙ ap (λ b. b && all_have k (map (filter p) lists)) (and_false (has_key (united lists) k))
         ∙ sym (ap (λ b. (has_key (united lists) k && all_have k lists) && b) e ∙ and_false (has_key (united lists) k && all_have k lists))
-
-pub KeepsKeys_trans : (left rest : List DocKey) (olds mids news : List (List DocKey)) → ((k : DocKey) → has_key rest k ≡ true → has_key left k ≡ true)
-    → KeepsKeys left olds mids → KeepsKeys rest mids news → KeepsKeys rest olds news
-KeepsKeys_trans left rest olds mids news within p q = record {
-  count = q.count ∙ p.count;
-  holders_stay = λ k has. q.holders_stay k has ∙ p.holders_stay k (within k has);
-}
 
 module _ {C : Type 0} (view : C → List DocKey) (news mids olds was : List C) (is : was ≡ olds) (leaps : common (map view news) ≡ common (map view mids))
     (keeps : KeepsKeys (common (map view news)) (map view mids) (map view news)) where

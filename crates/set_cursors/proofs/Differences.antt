@@ -12,7 +12,7 @@ use Rattle.set_cursors.specs.Differences.{IsClear}
 use Rattle.set_cursors.specs.Filters.{difference}
 use Rattle.set_cursors.specs.Firsts.{is_first}
 use Rattle.set_cursors.proofs.Asked.{some_first}
-use Rattle.set_cursors.proofs.Commons.{KeepsKeys_trans}
+use Rattle.uni_base.proofs.UnitedLemmas.{KeepsKeys_trans}
 use Rattle.set_cursors.proofs.FirstKeys.{is_first-has_key, or_true}
 
 -- two lists, as operands are

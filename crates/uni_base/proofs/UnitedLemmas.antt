@@ -111,6 +111,14 @@ KeepsKeys-filter p lists = record { count = length-map lists (filter p); holders
         cons_same (has_key (filter p ks) k) (has_key ks k) (holders k (map (filter p) lists)) (holders k lists)
         (has_key-filter p ks k ∙ ap (λ b. has_key ks k && b) pass ∙ and_true (has_key ks k)) (stay k pass lists)
 
+-- what two moves keep, one after the other
+pub KeepsKeys_trans : (left rest : List DocKey) (olds mids news : List (List DocKey)) → ((k : DocKey) → has_key rest k ≡ true → has_key left k ≡ true)
+    → KeepsKeys left olds mids → KeepsKeys rest mids news → KeepsKeys rest olds news
+KeepsKeys_trans left rest olds mids news within p q = record {
+  count = q.count ∙ p.count;
+  holders_stay = λ k has. q.holders_stay k has ∙ p.holders_stay k (within k has);
+}
+
 -- passing the head of a ranked list
 pub without-head : (k : DocKey) (ks : List DocKey) → IsRanked (k ∷ ks) → without k (k ∷ ks) ≡ ks
 without-head k ks ranked =

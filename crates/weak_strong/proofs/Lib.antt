@@ -1,0 +1,6 @@
+mod Counting
+mod Placed
+mod Settled
+mod Started
+mod Walked
+mod Whole

@@ -1,0 +1,132 @@
+-- A walk as its value shows it.
+use Rattle.std.proofs.Common.{◌≡◌, ℕ, ◌+◌, ◌^◌, ◌<◌, ◌≤◌, Bool, true, false, List, [], ◌∷◌, Option, None, Some, refl, sym, ◌∙◌, ap, subst, arith, length, map, get_or, slice_get, drop, All}
+use Rattle.std.proofs.lemmas.List.{length-map}
+use Rattle.std.specs.Bool.{OnTrue}
+use Rattle.std.specs.declared.cmp.Ordering.{Ordering}
+use Rattle.std.specs.declared.cmp.Ordering.TheVariants.{Less, Equal, Greater}
+use Rattle.std.specs.Ordering.{is_ge}
+use Rattle.uni_base.proofs.RankedLemmas.{keys_from-here}
+use Rattle.uni_base.specs.declared.entity.DocKey.{DocKey}
+use Rattle.uni_base.specs.Cursors.{is_before, is_less, IsRanked, keys_from}
+use Rattle.uni_base.specs.KeySets.{has_first, has_key, united, KeepsKeys}
+use Rattle.uni_base.specs.Walks.{Quota, walked}
+use Rattle.uni_base.proofs.UnitedLemmas.{IsRanked-united, KeepsKeys_trans}
+use Rattle.weak_strong.specs.declared.rule.Counter.{Counter}
+use Rattle.weak_strong.specs.declared.rule.Rule.{Rule}
+use Rattle.weak_strong.specs.declared.rule.Rule.TheVariants.{Weak, Strong}
+use Rattle.weak_strong.specs.Marks.{counter_of}
+use Rattle.weak_strong.specs.Places.{place_of}
+use Rattle.weak_strong.specs.Rules.{keeps_by, walkers}
+use Rattle.weak_strong.specs.Walking.{IsCounted, IsSettled, IsWalking, walk_of}
+use Rattle.weak_strong.proofs.Counting.{first_among}
+use Rattle.weak_strong.proofs.Placed.{place_later, rest_later}
+use Rattle.weak_strong.proofs.Settled.{IsRanked-walk_of, has_key-drop, kept_on, narrowed, owns_up, settled_first, walk_of-united}
+
+abbrev pub Whole : Type 0 → Type 0
+Whole C = Rule × List C × List (Quota × ℕ) × ℕ
+
+abbrev pub keys_of : {C : Type 0} → (C → List DocKey) → Whole C → List DocKey
+keys_of view v = walk_of v.0 (map view v.1) v.2 v.3
+
+-- what is not there
+pub none_from : (o : Option DocKey) → ((k : DocKey) → o ≡ Some k → ⊥) → o ≡ None
+none_from None e = refl
+none_from (Some k) e = absurd (e k refl)
+
+first_same : (keys xs ys : List DocKey) → slice_get xs 0 ≡ slice_get ys 0 → has_first keys xs ≡ has_first keys ys
+first_same keys [] [] e = refl
+first_same keys [] (y ∷ ys) e = absurd cc
+first_same keys (x ∷ xs) [] e = absurd cc
+first_same keys (x ∷ xs) (y ∷ ys) e = let s : x ≡ y = cc in ap (has_key keys) s
+
+on_true_same : (r : Bool) (P Q : Type 0) → (P → Q) → OnTrue r P → OnTrue r Q
+on_true_same true P Q f p = f p
+on_true_same false P Q f p = tt
+
+module _ {C : Type 0} (view : C → List DocKey) (v : Whole C) (rule : Rule) (cands : List C) (counters : List (Quota × ℕ)) (kept : ℕ) (is : (rule, cands, counters, kept) ≡ v) where
+  pub whole_keys : walk_of rule (map view cands) counters kept ≡ keys_of view v
+  whole_keys = ap (keys_of view) is
+
+  pub whole_lists : map view cands ≡ map view v.1
+  whole_lists = ap (λ (w : Whole C). map view w.1) is
+
+  module _ (settled : IsSettled rule (map view cands) counters kept) where
+    pub whole_first : slice_get (united (map view cands)) 0 ≡ slice_get (keys_of view v) 0
+    whole_first = settled_first rule (map view cands) counters kept settled ∙ ap (λ (ks : List DocKey). slice_get ks 0) whole_keys
+
+    pub whole_holds : (i : ℕ) (r : Bool) → r ≡ has_first (get_or (map view cands) i []) (united (map view cands)) → r ≡ has_first (get_or (map view v.1) i []) (keys_of view v)
+    whole_holds i r e =
+        e ∙ first_same (get_or (map view cands) i []) (united (map view cands)) (keys_of view v) whole_first
+        ∙ ap (λ (ls : List (List DocKey)). has_first (get_or ls i []) (keys_of view v)) whole_lists
+
+    pub whole_current : (i : ℕ) (r : Bool) → OnTrue r (slice_get (get_or (map view cands) i []) 0 ≡ slice_get (united (map view cands)) 0)
+        → OnTrue r (slice_get (get_or (map view v.1) i []) 0 ≡ slice_get (keys_of view v) 0)
+    whole_current i r =
+        on_true_same r (slice_get (get_or (map view cands) i []) 0 ≡ slice_get (united (map view cands)) 0) (slice_get (get_or (map view v.1) i []) 0 ≡ slice_get (keys_of view v) 0)
+        (λ e. ap (λ (ls : List (List DocKey)). slice_get (get_or ls i []) 0) (sym whole_lists) ∙ e ∙ whole_first)
+
+    -- at its end it stays
+    pub whole_end : slice_get (united (map view cands)) 0 ≡ None → keys_of view v ≡ drop 1 (keys_of view v)
+    whole_end none = by (keys_of view v) (sym whole_first ∙ none)
+      where
+        by : (ks : List DocKey) → slice_get ks 0 ≡ None → ks ≡ drop 1 ks
+        by [] e = refl
+        by (x ∷ xs) e = absurd cc
+
+pub whole_ranked : {C : Type 0} (view : C → List DocKey) (v : Whole C) → IsRanked (keys_of view v)
+whole_ranked view v = IsRanked-walk_of v.0 (map view v.1) v.2 v.3
+
+-- ---- a step
+
+module _ (olds news : List (List DocKey)) (before : List (Quota × ℕ)) (counters : List Counter) (kept next : ℕ) (key : DocKey)
+    (counted : IsCounted olds before kept) (first : Some key ≡ slice_get (united olds) 0) (one : next ≡ kept + 1) (rank : key.rank.0 < 2 ^ 32) (id : key.id < 2 ^ 64)
+    (passed : united news ≡ drop 1 (united olds)) (keeps : KeepsKeys (united news) olds news) where
+  pub counted_next : length counters ≡ length olds → All (λ (c : Counter). c.own ≤ next) counters → IsCounted news (map counter_of counters) next
+  counted_next count owns = record {
+    count = length-map counters counter_of ∙ count ∙ sym keeps.count;
+    kept_before = λ k has.
+        let in_rest = ap (λ (ks : List DocKey). has_key ks k) (sym passed) ∙ has in
+        let below = place_later key k (rest_later (united olds) key (IsRanked-united olds) (sym first) k in_rest) rank id in
+        let here = counted.kept_before key (first_among (united olds) key (sym first)) in
+        omega (arith, below, here);
+    owns = owns_up counters next owns;
+  }
+
+module _ {C : Type 0} (view : C → List DocKey) (v : Whole C) (rule : Rule) (cands : List C) (before after : List (Quota × ℕ)) (kept next : ℕ) (is : (rule, cands, before, kept) ≡ v)
+    (settled : IsSettled rule (map view cands) before kept) (key : DocKey) (first : Some key ≡ slice_get (united (map view cands)) 0) (one : next ≡ kept + 1)
+    (counts : (k : DocKey) → slice_get (united (map view cands)) 0 ≡ Some k → walkers (map view cands) after ≡ map (walked k) (walkers (map view cands) before))
+    (mids news : List (List DocKey)) (passed : united mids ≡ drop 1 (united (map view cands))) (keeps : KeepsKeys (united mids) (map view cands) mids)
+    (walks : walk_of rule news after next ≡ walk_of rule mids after next) (settles : KeepsKeys (walk_of rule news after next) mids news) where
+  same_rule : rule ≡ v.0
+  same_rule = ap (λ (w : Whole C). w.0) is
+
+  pub stepped_walk : walk_of v.0 news after next ≡ drop 1 (keys_of view v)
+  stepped_walk =
+      ap (λ (r : Rule). walk_of r news after next) (sym same_rule) ∙ walks ∙ ap (λ (n : ℕ). walk_of rule mids after n) one
+      ∙ kept_on rule (map view cands) mids before after kept key (sym first) (settled key (sym first)) (counts key (sym first)) passed keeps
+      ∙ ap (drop 1) (whole_keys view v rule cands before kept is)
+
+  pub stepped_operands : KeepsKeys (walk_of v.0 news after next) (map view v.1) news
+  stepped_operands =
+      subst (λ (w : Whole C). KeepsKeys (walk_of w.0 news after next) (map view w.1) news) is
+      (KeepsKeys_trans (united mids) (walk_of rule news after next) (map view cands) mids news
+        (λ k has. walk_of-united rule mids after next k (ap (λ (ks : List DocKey). has_key ks k) (sym walks) ∙ has)) keeps settles)
+
+-- ---- a seek is over
+
+pub not_before-ge : (o p : Ordering) (r : Bool) → p ≡ o → r ≡ is_ge p → r ≡ true → is_less o ≡ false
+not_before-ge o p r e f h = ap is_less (sym e) ∙ by p (sym f ∙ h)
+  where
+    by : (q : Ordering) → is_ge q ≡ true → is_less q ≡ false
+    by Less g = absurd cc
+    by Equal g = refl
+    by Greater g = refl
+
+pub sought_here : (from key : DocKey) (now whole : List DocKey) → Some key ≡ slice_get now 0 → IsRanked now → is_before key from ≡ false → keys_from from now ≡ whole → now ≡ whole
+sought_here from key [] whole first ranked late walks = cc
+sought_here from key (x ∷ xs) whole first ranked late walks =
+    let s : key ≡ x = cc in sym (keys_from-here from x xs ranked (subst (λ (k : DocKey). is_before k from ≡ false) s late)) ∙ walks
+
+pub sought_end : (from : DocKey) (now whole : List DocKey) → slice_get now 0 ≡ None → keys_from from now ≡ whole → now ≡ whole
+sought_end from [] whole none walks = walks
+sought_end from (x ∷ xs) whole none walks = cc

@@ -1,0 +1,26 @@
+use Rattle.std.proofs.Common.{◌≡◌, Some, None, ◌∙◌, ap, sym, subst, map, slice_get}
+use Rattle.uni_base.specs.Cursors.{IsRanked, keys_from}
+use Rattle.uni_base.specs.RankOrder.{doc_cmp}
+use Rattle.weak_strong.specs.declared.rule.Rule.{Rule}
+use Rattle.weak_strong.specs.Walking.{walk_of}
+use Rattle.weak_strong.proofs.Whole.{none_from, not_before-ge, sought_here, sought_end}
+use Rattle.weak_strong.proofs.walking.Walking.seek.Goals as goal
+
+pub returns-then-is_ge-clause-walk : goal.returns-then-is_ge-clause-walk
+returns-then-is_ge-clause-walk g c =
+    let view = g.C.DocCursor.remaining in
+    sought_here c.args.from c.in-Some.key (walk_of c.args.self.now.0 (map view c.loop-key.self.1) c.loop-key.self.2 c.loop-key.self.3)
+    (keys_from c.args.from (walk_of c.args.self.now.0 (map view c.args.self.now.1) c.args.self.now.2 c.args.self.now.3))
+    (c.in-Some.ensures.first ∙ ap (λ (r : Rule). slice_get (walk_of r (map view c.loop-key.self.1) c.loop-key.self.2 c.loop-key.self.3) 0) c.loop-key.invariant.stays)
+    (subst (λ (r : Rule). IsRanked (walk_of r (map view c.loop-key.self.1) c.loop-key.self.2 c.loop-key.self.3)) c.loop-key.invariant.stays c.peek.ensures.ranked)
+    (not_before-ge (doc_cmp c.in-Some.key c.args.from) c.cmp.result c.is_ge.result c.cmp.ensures c.is_ge.ensures c.if-is_ge.true)
+    c.loop-key.invariant.walk
+
+pub returns-clause-walk : goal.returns-clause-walk
+returns-clause-walk g c =
+    let view = g.C.DocCursor.remaining in
+    sought_end c.args.from (walk_of c.args.self.now.0 (map view c.loop-key.self.1) c.loop-key.self.2 c.loop-key.self.3)
+    (keys_from c.args.from (walk_of c.args.self.now.0 (map view c.args.self.now.1) c.args.self.now.2 c.args.self.now.3))
+    (ap (λ (r : Rule). slice_get (walk_of r (map view c.loop-key.self.1) c.loop-key.self.2 c.loop-key.self.3) 0) (sym c.loop-key.invariant.stays)
+      ∙ sym c.peek.ensures.first ∙ none_from c.peek.result c.in_default.not-Some)
+    c.loop-key.invariant.walk

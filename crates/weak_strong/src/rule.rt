@@ -1,0 +1,76 @@
+ghost use Rattle.std.specs.Prelude.{◌≡◌, ◌<◌, ◌≤◌, ◌^◌, ◌-◌, ◌+◌};
+ghost use Rattle.weak_strong.specs.Marks.{counter_of, quota_of};
+ghost use Rattle.weak_strong.specs.Rules.{allows_by, counted};
+
+use crate::Fraction;
+
+// Which walk is walked.
+#[derive(Clone, Copy)]
+pub(crate) enum Rule {
+    Weak,
+    Strong,
+}
+
+// What is left of an operand's mark.
+#[derive(Clone, Copy)]
+pub(crate) enum Allowance {
+    Nothing,
+    Hits(u32),
+    Weight(Fraction),
+}
+
+// An operand's mark, and how many of the kept keys it has.
+#[derive(Clone, Copy)]
+pub(crate) struct Counter {
+    pub(crate) allowance: Allowance,
+    pub(crate) own: u128,
+}
+
+impl Rule {
+    // Whether an operand lets a key be kept, which it has or not; `next` keys are kept with it.
+    pub(crate) fn allows(self, next: u128, has: bool, counter: &Counter) -> bool
+        requires next { next ≤ 2 ^ 97 }
+        requires own { counter.now.own < next }
+        ensures { result ≡ allows_by self (next - 1) has (quota_of counter.now.allowance) counter.now.own }
+    {
+        match self {
+            Rule::Weak => {
+                has || match counter.allowance {
+                    Allowance::Nothing => false,
+                    Allowance::Hits(left) => left > 0,
+                    Allowance::Weight(fraction) => fraction.of(next) <= counter.own,
+                }
+            }
+            Rule::Strong => {
+                let own = counter.own + u128::from(has);
+                match counter.allowance {
+                    Allowance::Nothing | Allowance::Hits(_) => true,
+                    Allowance::Weight(fraction) => fraction.of(next) <= own,
+                }
+            }
+        }
+    }
+}
+
+impl Counter {
+    // The counter once a key is kept, which the operand has or not.
+    pub(crate) fn count(self, has: bool) -> Counter
+        requires { self.own < 2 ^ 96 }
+        ensures { counter_of result ≡ counted has (counter_of self) }
+    {
+        if has {
+            return Counter {
+                allowance: self.allowance,
+                own: self.own + 1,
+            };
+        }
+        let allowance = match self.allowance {
+            Allowance::Hits(left) => Allowance::Hits(left.saturating_sub(1)),
+            other => other,
+        };
+        Counter {
+            allowance,
+            own: self.own,
+        }
+    }
+}
