@@ -62,12 +62,14 @@ pub data Opening : Type 0 where
   opens : Declarations → ℕ → List (List ℕ) → Opening
   refused : SchemaRefusal → Opening
 
+-- what follows a step: the end of the header, what later lines open with, or a refusal
+abbrev pub after_step : List (List ℕ) → (HeaderState → Opening) → Step → Opening
+after_step lines later (goes next) = elim next.ended [ true ↦ opens next.schema (next.taken + 1) lines | false ↦ later next ]
+after_step lines later (refuses refusal) = refused refusal
+
 abbrev pub opening_from : HeaderState → List (List ℕ) → Opening
 opening_from state [] = refused (NoBegin (state.taken + 1))
-opening_from state (line ∷ lines) = elim (step state line) [
-  | refuses refusal ↦ refused refusal
-  | goes next ↦ elim next.ended [ true ↦ opens next.schema (next.taken + 1) lines | false ↦ opening_from next lines ]
-]
+opening_from state (line ∷ lines) = after_step lines (λ next. opening_from next lines) (step state line)
 
 -- the header of the lines of a script, whose lines are at most so long
 abbrev pub opening_of : ℕ → List (List ℕ) → Opening

@@ -1,4 +1,6 @@
+pub mod Examples
 pub mod Header
+pub mod HeaderText
 pub mod Lines
 pub mod Refusals
 pub mod Rules

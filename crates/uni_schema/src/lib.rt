@@ -2,7 +2,9 @@
 #![tactic(auto)]
 
 mod declare;
+pub mod examples;
 mod header;
+pub mod laws;
 mod line;
 mod refusal;
 mod rules;

@@ -4,14 +4,14 @@ ghost use Rattle.std.specs.Prelude.{◌≤◌};
 use crate::{HeaderReader, Origin, Owner, Schema, SchemaRefusal, Store};
 use std::alloc::Global;
 use std::test::Fail;
-use uni_base::{EdgeRef, EntityId, Key, Limits, Word};
+use uni_base::{EdgeRef, EntityId, Key, Limits, Word, cut_at, read_number};
 
-// What the lines of a text open with: a schema, or the line and the code of a refusal. Where they end
+// What a text opens with, whose lines end at bars: a schema, or the line and the code of a refusal. Where they end
 // before `begin`, that is the line after them, with code 8.
 fn open(alloc: Global, text: &[u8]) -> Result<Result<Schema, (u64, u32)>, Fail> {
     let mut reader = HeaderReader::new(alloc, Limits::standard());
     let mut line_no = 1;
-    for line in text.split(|byte| *byte == b'\n') {
+    for line in text.split(|byte| *byte == b'|') {
         if line_no == u64::MAX {
             break;
         }
@@ -30,110 +30,24 @@ const FIRST: &str = "unicorn 1";
 
 const USER: &str = "vertical user 1 1";
 
-// Headers, with the line and the code at which each is refused, or 0 and 0.
-const ROWS: [(&[u8], u64, u32); 39] = [
-    (b"unicorn 3", 1, 1),
-    (b"", 2, 8),
-    (b"# a comment\n\nunicorn 2\nbegin", 0, 0),
-    (b"unicorn 1\nbegin", 0, 0),
-    (b"unicorn 1\nunicorn 1", 2, 1),
-    (b"vertical user 1 1", 1, 1),
-    (b"begin", 1, 1),
-    (b"unicorn 1 ", 1, 1),
-    (b"unicorn  1", 1, 1),
-    (b"unicorn 1\r", 1, 1),
-    (b"unicorn 1\nvertical user 0 1", 2, 4),
-    (b"unicorn 1\nvertical user 1 1\nbegin", 0, 0),
-    (b"unicorn 1\nvertical user 64 4\nbegin", 0, 0),
-    (b"unicorn 1\nvertical user 65 1", 2, 4),
-    (b"unicorn 1\nvertical user 1 0", 2, 4),
-    (b"unicorn 1\nvertical user 1 5", 2, 4),
-    (b"unicorn 1\nvertical user 01 1", 2, 1),
-    (b"unicorn 1\nvertical user 99999999999999999999 1", 2, 4),
-    (b"unicorn 1\nvertical user 999999999999999999999 1", 2, 1),
-    (b"unicorn 1\nvertical word 1 1", 2, 2),
-    (b"unicorn 1\nvertical word 0 1", 2, 2),
-    (b"unicorn 1\nvertical user 1 1\nvertical user 1 1", 3, 2),
-    (b"unicorn 1\nvertical 1user 1 1", 2, 1),
-    (
-        b"unicorn 1\nvertical aaaaaaaabbbbbbbbccccccccdddddddd 1 1\nbegin",
-        0,
-        0,
-    ),
-    (
-        b"unicorn 1\nvertical aaaaaaaabbbbbbbbccccccccdddddddde 1 1",
-        2,
-        1,
-    ),
-    (
-        b"unicorn 1\nvertical user 1 1\ntype user user user both index\nbegin",
-        0,
-        0,
-    ),
-    (
-        b"unicorn 1\nvertical user 1 1\ntype lives word user both index",
-        3,
-        5,
-    ),
-    (
-        b"unicorn 1\nvertical user 1 1\ntype lives word user target forward",
-        3,
-        5,
-    ),
-    (
-        b"unicorn 1\nvertical user 1 1\ntype lives word town target index",
-        3,
-        3,
-    ),
-    (
-        b"unicorn 1\nvertical user 1 1\ntype lives word word both index",
-        3,
-        3,
-    ),
-    (
-        b"unicorn 1\nvertical user 1 1\ntype lives town user target index",
-        3,
-        3,
-    ),
-    (
-        b"unicorn 1\nvertical user 1 1\ntype lives word user target index\ntype lives word user target index",
-        4,
-        2,
-    ),
-    (b"unicorn 1\nvertical user 1 1\ndeny blocked", 3, 7),
-    (
-        b"unicorn 1\nvertical user 1 1\ntype lives word user target index\ndeny lives",
-        4,
-        7,
-    ),
-    (
-        b"unicorn 1\nvertical user 1 1\ntype shows user user both forward\ndeny shows",
-        4,
-        7,
-    ),
-    (
-        b"unicorn 1\nvertical user 1 1\ntype blocked user user source index\ndeny blocked\ndeny blocked",
-        5,
-        7,
-    ),
-    (
-        b"unicorn 1\nvertical user 1 1\ntype blocked user user source index\ndeny blocked\nbegin",
-        0,
-        0,
-    ),
-    (
-        b"unicorn 1\nvertical user 1 1\ntype shows user user owner index",
-        3,
-        1,
-    ),
-    (b"unicorn 1\nvertical user 1 1", 3, 8),
-];
+// Headers, each with the line and the code at which it is refused, or 0 and 0. A bar stands for a line
+// break, and a semicolon ends a row.
+const ROWS: &[u8] =
+    b"unicorn 1 =1 1;unicorn 1\r=1 1;vertical user 1 1=1 1;unicorn 1|vertical user 64 4|begin=0 0;unicorn 1|vertical user 65 1=2 4;unicorn 1|vertical user 1 5=2 4;unicorn 1|vertical user 01 1=2 1;unicorn 1|vertical user 1 1|vertical user 1 1=3 2;unicorn 1|vertical user 1 1|type lives word user target forward=3 5;unicorn 1|vertical user 1 1|type lives word word both index=3 3;unicorn 1|vertical user 1 1|type lives word user target index|deny lives=4 7";
+
+// A row's header, line and code.
+fn row_of(row: &[u8]) -> Option<(&[u8], u128, u128)> {
+    let (text, answer) = cut_at(row, b'=')?;
+    let (line, code) = cut_at(answer, b' ')?;
+    Some((text, read_number(line)?, read_number(code)?))
+}
 
 #[test]
 fn the_first_broken_rule_refuses(rt: HostRuntime) -> Result<(), Fail> {
-    for (text, line, code) in ROWS {
+    for row in ROWS.split(|byte| *byte == b';') {
+        let (text, line, code) = row_of(row).ok_or("no row")?;
         let answer = open(rt.alloc(), text)?.err().unwrap_or((0, 0));
-        assert_eq!(rt; answer, (line, code));
+        assert_eq!(rt; (answer.0 as u128, answer.1 as u128), (line, code));
     }
     Ok(())
 }
@@ -213,7 +127,7 @@ fn a_header_line_may_be_too_long(rt: HostRuntime) -> Result<(), Fail> {
 #[test]
 fn a_schema_has_what_its_lines_declare(rt: HostRuntime) -> Result<(), Fail> {
     let text =
-        b"# people and photos\nunicorn 2\nvertical user 2 2\nvertical photo 1 1\n\ntype friend user user both index\ntype lives word user target index\ntype shows photo user source forward\ntype blocked user user source index\ndeny blocked\nbegin";
+        b"# people and photos|unicorn 2|vertical user 2 2|vertical photo 1 1||type friend user user both index|type lives word user target index|type shows photo user source forward|type blocked user user source index|deny blocked|begin";
     let schema = open(rt.alloc(), text)?.ok().ok_or("refused")?;
     assert_eq!(rt; schema.format(), 2);
     let photo = Word::read(b"photo").ok_or("no word")?;

@@ -1,0 +1,15 @@
+//! Laws about definitions, each the contract of a function that does nothing.
+ghost use Rattle.uni_schema.specs.HeaderText.{LinesByText, OpensByText};
+
+/// What is read off a line of a header is exactly what it says by its text.
+#[tactic(auto, using(crate::proofs::Texts::lines_by_text))]
+pub fn lines_by_text()
+    ensures { LinesByText }
+{}
+
+/// The lines of a script open with a whole header, which they spell, or with the first line that
+/// breaks a rule, and never with anything else.
+#[tactic(auto, using(crate::proofs::Openings::opens_by_text))]
+pub fn opens_by_text()
+    ensures { OpensByText }
+{}
