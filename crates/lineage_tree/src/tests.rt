@@ -28,7 +28,9 @@ fn a_chain_of_entries_is_judged(rt: HostRuntime) -> Result<(), Fail> {
     let tree = Lineage::Entry(last);
     assert!(rt; verdicts.get(last));
     assert!(rt; tree.holds(&verdicts, &judge));
-    let edges = tree.first(alloc, &book, &verdicts, &judge)?.ok_or("no list")?;
+    let edges = tree
+        .first(alloc, &book, &verdicts, &judge)?
+        .ok_or("no list")?;
     assert_eq!(rt; edges.as_slice(), [shown.edge].as_slice());
     Ok(())
 }
@@ -53,7 +55,9 @@ fn the_first_list_that_is_accepted_whole(rt: HostRuntime) -> Result<(), Fail> {
     members.push(Lineage::AllOf(second))?;
     let tree = Lineage::AnyOf(members);
     assert!(rt; tree.holds(&verdicts, &judge));
-    let edges = tree.first(alloc, &book, &verdicts, &judge)?.ok_or("no list")?;
+    let edges = tree
+        .first(alloc, &book, &verdicts, &judge)?
+        .ok_or("no list")?;
     assert_eq!(rt; edges.as_slice(), [shown.edge].as_slice());
     Ok(())
 }
