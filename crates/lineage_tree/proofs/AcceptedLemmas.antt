@@ -1,10 +1,10 @@
 -- Lists that are accepted whole, among those that a tree stands for.
-use Rattle.std.proofs.Common.{◌≡◌, ℕ, zero, suc, Bool, true, false, ◌&&◌, ◌||◌, cond, List, [], ◌∷◌, ◌++◌, Option, None, Some, refl, sym, ◌∙◌, ap, subst, map, get_or, unwrap_or, find}
-use Rattle.std.specs.List.{list_any, list_all, flat_map}
+use Rattle.std.proofs.Common.{◌≡◌, ℕ, zero, suc, Bool, true, false, ◌&&◌, ◌||◌, List, [], ◌∷◌, ◌++◌, refl, sym, ◌∙◌, ap, map, get_or}
+use Rattle.std.specs.List.{list_any, list_all}
 use Rattle.std.proofs.lemmas.List.{map-append}
 use Rattle.std.proofs.lemmas.List.Folds.{list_any-append, list_all-append}
 use Rattle.uni_base.specs.declared.edge.Held.{Held}
-use Rattle.lineage_tree.specs.Accepted.{some_accepted, first_accepted, verdicts_of}
+use Rattle.lineage_tree.specs.Accepted.{some_accepted, verdicts_of}
 use Rattle.lineage_tree.specs.Holding.{holds_by, all_hold_by, some_hold_by}
 use Rattle.lineage_tree.specs.Lists.{joined, lists_of, choices_of, members_lists}
 use Rattle.lineage_tree.specs.Tree.{Tree, edge, all_of, any_of, entry, Forest, no_members, with_member}

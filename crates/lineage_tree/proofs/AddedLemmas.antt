@@ -1,5 +1,5 @@
 -- A loop that adds the edges of a tree's first list, member by member.
-use Rattle.std.proofs.Common.{◌≡◌, ℕ, zero, ◌+◌, ◌<◌, ◌≤◌, Bool, true, false, List, [], ◌∷◌, ◌++◌, refl, sym, ◌∙◌, ap, subst, arith, length, map, get_or, drop, append-nil}
+use Rattle.std.proofs.Common.{◌≡◌, ℕ, ◌+◌, ◌<◌, ◌≤◌, Bool, true, false, List, ◌++◌, refl, sym, ◌∙◌, ap, length, get_or, drop, append-nil}
 use Rattle.uni_base.specs.declared.edge.EdgeRef.{EdgeRef}
 use Rattle.uni_base.specs.declared.edge.Held.{Held}
 use Rattle.lineage_tree.specs.declared.lineage.Lineage.{Lineage}
@@ -7,7 +7,7 @@ use Rattle.lineage_tree.specs.declared.lineage.Lineage.TheViews as views
 use Rattle.lineage_tree.specs.Accepted.{edges_of, first_or_none, some_accepted}
 use Rattle.lineage_tree.specs.Entries.{names_below, all_name_below}
 use Rattle.lineage_tree.specs.Lists.{joined, lists_of, choices_of, members_lists}
-use Rattle.lineage_tree.specs.Tree.{Forest, no_members, with_member, tree_of, trees_of}
+use Rattle.lineage_tree.specs.Tree.{Forest, with_member, tree_of, trees_of}
 use Rattle.lineage_tree.proofs.EntryLemmas.{Book, both_true}
 use Rattle.lineage_tree.proofs.FirstLemmas.{head_some, rest_some, first-joined, first-here, first-later, some-later, edges_append}
 use Rattle.lineage_tree.proofs.Sizes.{forest_size_by, size_by}

@@ -1,5 +1,5 @@
 -- What the entries of a book stand for.
-use Rattle.std.proofs.Common.{◌≡◌, ℕ, zero, suc, ◌+◌, ◌<◌, ◌≤◌, Bool, true, false, ◌&&◌, nat_lt, List, [], ◌∷◌, ◌++◌, refl, sym, ◌∙◌, ap, subst, arith, length, map, take, get_or, length-append}
+use Rattle.std.proofs.Common.{◌≡◌, ℕ, zero, suc, ◌+◌, ◌<◌, ◌≤◌, Bool, true, false, ◌&&◌, List, [], ◌∷◌, ◌++◌, refl, sym, ◌∙◌, ap, arith, length, map, take, get_or, length-append}
 use Rattle.std.proofs.Math.ListN.{get_or-append}
 use Rattle.std.proofs.Math.Seq.{get_or-append_seam}
 use Rattle.std.proofs.lemmas.Bool.Decides.{nat_tests}
@@ -89,7 +89,7 @@ module _ {X : Type 0} (value : List X → Tree → X) where
           let more : List X = done ++ value done tree ∷ [] in
           let longer = length-append done (value done tree ∷ []) in
           agrees (length done) (each_after value more trees) done
-            (λ m l. each_after-keep more trees m (omega (arith, longer)) ∙ get_or-append done (value done tree ∷ []) none m l) tree both.0
+          (λ m l. each_after-keep more trees m (omega (arith, longer)) ∙ get_or-append done (value done tree ∷ []) none m l) tree both.0
           ∙ sym (get_or-append_seam done (value done tree) [] none)
           ∙ sym (each_after-keep more trees (length done) (omega (arith, longer)))
           ∙ ap (λ n. get_or (each_after value more trees) n none) (plain (length done))

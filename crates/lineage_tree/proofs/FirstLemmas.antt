@@ -1,16 +1,14 @@
 -- The first list that is accepted whole, among those that a tree stands for.
-use Rattle.std.proofs.Common.{◌≡◌, ℕ, ◌+◌, ◌<◌, ◌≤◌, Bool, true, false, ◌&&◌, ◌||◌, cond, List, [], ◌∷◌, ◌++◌, Option, None, Some, refl, sym, ◌∙◌, ap, subst, map, find, unwrap_or, append_assoc}
-use Rattle.std.specs.List.{list_any, list_all, flat_map}
+use Rattle.std.proofs.Common.{◌≡◌, Bool, true, false, ◌&&◌, ◌||◌, cond, List, [], ◌∷◌, ◌++◌, Option, None, Some, refl, sym, ◌∙◌, ap, map, find, unwrap_or, append_assoc}
+use Rattle.std.specs.List.{list_any, list_all}
 use Rattle.std.specs.Option.{option_map}
 use Rattle.std.proofs.lemmas.List.{map-append}
 use Rattle.std.proofs.lemmas.List.Folds.{list_any-append, list_all-append}
 use Rattle.uni_base.specs.declared.edge.EdgeRef.{EdgeRef}
 use Rattle.uni_base.specs.declared.edge.Held.{Held}
 use Rattle.lineage_tree.specs.Accepted.{some_accepted, first_accepted, first_or_none, edges_of}
-use Rattle.lineage_tree.specs.Lists.{joined, lists_of, choices_of, members_lists}
-use Rattle.lineage_tree.specs.Tree.{Tree, edge, Forest, with_member}
+use Rattle.lineage_tree.specs.Lists.{joined}
 use Rattle.lineage_tree.proofs.AcceptedLemmas.{some_joined}
-use Rattle.lineage_tree.proofs.EntryLemmas.{Book}
 
 module _ {X : Type 0} (p : X → Bool) where
   find_append_some : (xs ys : List X) (x : X) → find p xs ≡ Some x → find p (xs ++ ys) ≡ Some x

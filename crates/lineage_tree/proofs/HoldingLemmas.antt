@@ -1,5 +1,5 @@
 -- A loop over the members of a tree, which asks whether they hold.
-use Rattle.std.proofs.Common.{◌≡◌, ℕ, ◌+◌, ◌<◌, ◌≤◌, Bool, true, false, ◌&&◌, ◌||◌, List, refl, sym, ◌∙◌, ap, get_or, drop, length}
+use Rattle.std.proofs.Common.{◌≡◌, ℕ, ◌+◌, ◌<◌, ◌≤◌, Bool, true, false, ◌&&◌, ◌||◌, List, sym, ◌∙◌, ap, get_or, drop, length}
 use Rattle.uni_base.specs.declared.edge.Held.{Held}
 use Rattle.lineage_tree.specs.declared.lineage.Lineage.{Lineage}
 use Rattle.lineage_tree.specs.declared.lineage.Lineage.TheViews as views

@@ -1,11 +1,10 @@
 -- How large a tree is with its entries written out: what finding its first list goes down.
-use Rattle.std.proofs.Common.{◌≡◌, ℕ, zero, suc, ◌+◌, ◌<◌, ◌≤◌, Bool, true, ◌&&◌, List, [], ◌∷◌, refl, sym, ◌∙◌, ap, arith, length, map, get_or, drop}
+use Rattle.std.proofs.Common.{◌≡◌, ℕ, suc, ◌+◌, ◌<◌, true, List, [], refl, sym, ◌∙◌, ap, arith, length, map, get_or}
 use Rattle.std.proofs.lemmas.Bool.Decides.{nat_tests}
 use Rattle.std.proofs.lemmas.List.{get_or-map, length-map}
-use Rattle.uni_base.specs.declared.edge.Held.{Held}
 use Rattle.lineage_tree.specs.declared.lineage.Lineage.{Lineage}
 use Rattle.lineage_tree.specs.Entries.{names_below, all_name_below, name_earlier, each_after}
-use Rattle.lineage_tree.specs.Tree.{Tree, edge, all_of, any_of, entry, Forest, no_members, with_member, tree_of, trees_of}
+use Rattle.lineage_tree.specs.Tree.{Tree, edge, all_of, any_of, entry, Forest, no_members, with_member, tree_of}
 use Rattle.lineage_tree.proofs.EntryLemmas.{both_true, entry_value}
 
 abbrev mutual
@@ -43,9 +42,9 @@ pub entry_smaller : (trees : List Lineage) (i : ℕ) (tree : Lineage) → i < le
     → size_by (sizes_of trees) (tree_of tree) < size_by (sizes_of trees) (entry i)
 entry_smaller trees i tree within is names =
     let same =
-        ap (size_by (sizes_of trees)) (ap tree_of is ∙ sym (get_or-map tree_of trees i tree (tree_of tree) within))
-        ∙ entry_value size_by 0 size_agree [] (map tree_of trees) i (tree_of tree) (omega (arith, length-map trees tree_of)) names
-        ∙ ap (λ n. get_or (sizes_of trees) n 0) (plain i) in
+    ap (size_by (sizes_of trees)) (ap tree_of is ∙ sym (get_or-map tree_of trees i tree (tree_of tree) within))
+    ∙ entry_value size_by 0 size_agree [] (map tree_of trees) i (tree_of tree) (omega (arith, length-map trees tree_of)) names
+    ∙ ap (λ n. get_or (sizes_of trees) n 0) (plain i) in
     omega (arith, same)
   where
     plain : (i : ℕ) → 0 + i ≡ i

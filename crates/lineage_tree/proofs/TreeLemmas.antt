@@ -1,5 +1,5 @@
 -- The code's trees as plain trees.
-use Rattle.std.proofs.Common.{rules, ◌≡◌, ℕ, ◌+◌, ◌<◌, ◌≤◌, List, [], ◌∷◌, refl, sym, ◌∙◌, ap, get_or, drop, length}
+use Rattle.std.proofs.Common.{rules, ◌≡◌, ℕ, ◌+◌, ◌<◌, ◌≤◌, List, sym, ◌∙◌, ap, get_or, drop, length}
 use Rattle.std.proofs.lemmas.List.{at_drop_more, at_drop_all}
 use Rattle.uni_base.specs.declared.edge.Held.{Held}
 use Rattle.lineage_tree.specs.declared.lineage.Lineage.{Lineage}
@@ -7,7 +7,7 @@ use Rattle.lineage_tree.specs.declared.lineage.Lineage.TheViews as views
 use Rattle.lineage_tree.specs.declared.lineage.Lineage.TheViews.{the_lemmas}
 use Rattle.lineage_tree.specs.declared.lineage.Lineage.TheFolds.{fold-roll-Lineage, fold_out-Lineage}
 use Rattle.lineage_tree.specs.declared.lineage.Lineage.TheBlock as block
-use Rattle.lineage_tree.specs.Tree.{Tree, edge, all_of, any_of, entry, Forest, no_members, with_member, forest_of, tree_of, trees_of}
+use Rattle.lineage_tree.specs.Tree.{edge, all_of, any_of, entry, no_members, with_member, tree_of, trees_of}
 
 pub tree_of-edge : (held : Held) → tree_of (block.Edge held) ≡ edge held
 tree_of-edge held = search (rules, the_lemmas, fold-roll-Lineage, fold_out-Lineage)

@@ -1,5 +1,5 @@
 -- Whether a tree holds, by its forms: what `Lineage::holds` goes by.
-use Rattle.std.specs.Prelude.{ℕ, Bool, true, false, ◌&&◌, ◌||◌, List, slice_index_or}
+use Rattle.std.specs.Prelude.{Bool, true, false, ◌&&◌, ◌||◌, List, slice_index_or}
 use Rattle.uni_base.specs.declared.edge.Held.{Held}
 use Rattle.lineage_tree.specs.Tree.{Tree, edge, all_of, any_of, entry, Forest, no_members, with_member}
 

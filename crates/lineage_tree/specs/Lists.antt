@@ -1,5 +1,5 @@
 -- Which lists of edges a lineage tree stands for, and in which order.
-use Rattle.std.specs.Prelude.{ℕ, List, [], ◌∷◌, ◌++◌, map, slice_index_or}
+use Rattle.std.specs.Prelude.{List, [], ◌∷◌, ◌++◌, map, slice_index_or}
 use Rattle.std.specs.List.{flat_map}
 use Rattle.uni_base.specs.declared.edge.Held.{Held}
 use Rattle.lineage_tree.specs.Tree.{Tree, edge, all_of, any_of, entry, Forest, no_members, with_member}

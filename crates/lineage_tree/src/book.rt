@@ -108,7 +108,11 @@ impl LineageBook {
     }
 
     /// A verdict on each entry. The judge says the same of an edge whenever it is asked.
-    pub fn judge<F: Fn(&Held) -> bool>(&self, alloc: Global, judge: &F) -> Result<Verdicts, AllocError>
+    pub fn judge<F: Fn(&Held) -> bool>(
+        &self,
+        alloc: Global,
+        judge: &F,
+    ) -> Result<Verdicts, AllocError>
         requires { F.IsAlwaysCallable judge.now }
         ensures count { IfOk result (λ verdicts. length verdicts ≡ length self.now) }
         ensures verdicts { IfOk result (λ verdicts. (accepts : Edges → Bool) → IsJudge F.Fn judge.now accepts
@@ -128,7 +132,11 @@ impl LineageBook {
 
 // Judges one entry after the other. Each names only such as are judged by then, so no entry is looked into
 // from another.
-fn judge_all<F: Fn(&Held) -> bool>(alloc: Global, entries: &[Lineage], judge: &F) -> Result<Verdicts, AllocError>
+fn judge_all<F: Fn(&Held) -> bool>(
+    alloc: Global,
+    entries: &[Lineage],
+    judge: &F,
+) -> Result<Verdicts, AllocError>
     requires callable { F.IsAlwaysCallable judge.now }
     requires names { name_earlier 0 (map tree_of entries.now) ≡ true }
     ensures count { IfOk result (λ verdicts. length verdicts ≡ length entries.now) }

@@ -15,7 +15,13 @@ impl Lineage {
     /// The edges of the first list of the tree that the judge accepts whole; none where the tree does not
     /// hold. The verdicts are those that the book gives for this judge, and the judge says the same of an
     /// edge whenever it is asked.
-    pub fn first<F: Fn(&Held) -> bool>(&self, alloc: Global, book: &LineageBook, verdicts: &Verdicts, judge: &F) -> Result<Option<EdgeList>, AllocError>
+    pub fn first<F: Fn(&Held) -> bool>(
+        &self,
+        alloc: Global,
+        book: &LineageBook,
+        verdicts: &Verdicts,
+        judge: &F,
+    ) -> Result<Option<EdgeList>, AllocError>
         requires callable { F.IsAlwaysCallable judge.now }
         requires names { names_below (length book.now) (tree_of self.now) ≡ true }
         requires count { length verdicts.now ≡ length book.now }
@@ -34,7 +40,13 @@ impl Lineage {
 
 // Adds the edges of the first list that the judge accepts whole, of a tree that holds. Only parts that hold
 // are gone into, so nothing is taken back.
-fn add_first<F: Fn(&Held) -> bool>(entries: &[Lineage], tree: &Lineage, verdicts: &Verdicts, judge: &F, edges: &mut EdgeList) -> Result<(), AllocError>
+fn add_first<F: Fn(&Held) -> bool>(
+    entries: &[Lineage],
+    tree: &Lineage,
+    verdicts: &Verdicts,
+    judge: &F,
+    edges: &mut EdgeList,
+) -> Result<(), AllocError>
     requires callable { F.IsAlwaysCallable judge.now }
     requires book { name_earlier 0 (map tree_of entries.now) ≡ true }
     requires names { names_below (length entries.now) (tree_of tree.now) ≡ true }
@@ -43,7 +55,7 @@ fn add_first<F: Fn(&Held) -> bool>(entries: &[Lineage], tree: &Lineage, verdicts
         → verdicts.now ≡ verdicts_of accepts (entries_of (map tree_of entries.now))
         → some_accepted accepts (lists_of (entries_of (map tree_of entries.now)) (tree_of tree.now)) ≡ true
         → edges.new ≡ edges.old
-            ++ edges_of (first_or_none accepts (lists_of (entries_of (map tree_of entries.now)) (tree_of tree.now)))) }
+        ++ edges_of (first_or_none accepts (lists_of (entries_of (map tree_of entries.now)) (tree_of tree.now)))) }
 {
     match tree {
         Lineage::Edge(held) => edges.push(held.edge),
@@ -61,6 +73,12 @@ fn add_first<F: Fn(&Held) -> bool>(entries: &[Lineage], tree: &Lineage, verdicts
             }
             Ok(())
         }
-        Lineage::Entry(entry) => add_first(entries, &entries[*entry as usize], verdicts, judge, edges),
+        Lineage::Entry(entry) => add_first(
+            entries,
+            &entries[*entry as usize],
+            verdicts,
+            judge,
+            edges,
+        ),
     }
 }

@@ -8,3 +8,6 @@ mod lineage;
 
 pub use book::{LineageBook, Verdicts};
 pub use lineage::{Lineage, RawHit};
+
+#[cfg(test)]
+mod tests;

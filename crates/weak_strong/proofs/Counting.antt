@@ -1,5 +1,5 @@
 -- Operands with their counters, one after the other.
-use Rattle.std.proofs.Common.{◌≡◌, ℕ, zero, suc, ◌+◌, ◌-◌, ◌<◌, ◌≤◌, Bool, true, false, ◌&&◌, ◌||◌, cond, List, [], ◌∷◌, refl, sym, ◌∙◌, ap, arith, length, map, get_or, set, drop, slice_get, Some, None, All}
+use Rattle.std.proofs.Common.{◌≡◌, ℕ, zero, suc, ◌+◌, ◌<◌, ◌≤◌, Bool, true, false, ◌&&◌, ◌||◌, cond, List, [], ◌∷◌, refl, sym, ◌∙◌, ap, arith, length, map, get_or, set, drop, slice_get, Some, All}
 use Rattle.std.proofs.lemmas.List.Elements.{All-head, All-tail}
 use Rattle.std.specs.List.{list_any, list_all}
 use Rattle.uni_base.specs.declared.entity.DocKey.{DocKey}
@@ -58,7 +58,7 @@ keeps_is Strong kept k lists counters e first =
 -- one operand more
 all_allow-drop : (rule : Rule) (kept : ℕ) (k : DocKey) (lists : List (List DocKey)) (counters : List (Quota × ℕ)) (i : ℕ) (d : Quota × ℕ) → i < length lists → i < length counters
     → all_allow rule kept k (drop i lists) (drop i counters)
-      ≡ (allows_by rule kept (has_key (get_or lists i []) k) (get_or counters i d).0 (get_or counters i d).1 && all_allow rule kept k (drop (suc i) lists) (drop (suc i) counters))
+    ≡ (allows_by rule kept (has_key (get_or lists i []) k) (get_or counters i d).0 (get_or counters i d).1 && all_allow rule kept k (drop (suc i) lists) (drop (suc i) counters))
 all_allow-drop rule kept k [] counters i d l m = absurd (omega arith)
 all_allow-drop rule kept k (keys ∷ lists) [] i d l m = absurd (omega arith)
 all_allow-drop rule kept k (keys ∷ lists) (c ∷ counters) zero d l m = refl
@@ -94,9 +94,9 @@ module _ (rule : Rule) (kept : ℕ) (k : DocKey) (lists : List (List DocKey)) (c
     turn_is =
         all_allow-drop rule kept k lists quotas i (counter_of counter) (omega (arith, as_many)) (omega (arith, length-map counters counter_of))
         ∙ ap (λ (c : Quota × ℕ). allows_by rule kept (has_key (get_or lists i []) k) c.0 c.1 && all_allow rule kept k (drop (suc i) lists) (drop (suc i) quotas))
-          (get_or-map counter_of counters i counter (counter_of counter) within ∙ ap counter_of (sym is))
+        (get_or-map counter_of counters i counter (counter_of counter) within ∙ ap counter_of (sym is))
         ∙ ap (λ h. allows_by rule kept h (quota_of counter.allowance) counter.own && all_allow rule kept k (drop (suc i) lists) (drop (suc i) quotas))
-          (sym (asked ∙ has_first-is (get_or lists i []) (united lists) k first))
+        (sym (asked ∙ has_first-is (get_or lists i []) (united lists) k first))
         ∙ ap (λ b. b && all_allow rule kept k (drop (suc i) lists) (drop (suc i) quotas)) (sym allowed)
         ∙ ap (λ (n : ℕ). allows && all_allow rule kept k (drop n lists) (drop n quotas)) (one_more i)
 
@@ -138,10 +138,10 @@ walkers_counted k (keys ∷ lists) (c ∷ counters) (suc n) e all = by (has_key 
   where
     by : (b : Bool) → walkers lists (counted_to n (holders k lists) counters) ≡ map (walked k) (walkers lists counters)
         → (record { has = has_key keys; quota = (counted b c).0; own = (counted b c).1 }) ∷ walkers lists (counted_to n (holders k lists) counters)
-          ≡ (elim b as (λ _. Walker DocKey) [
-              | true ↦ record { has = has_key keys; quota = c.0; own = c.1 + 1 }
-              | false ↦ record { has = has_key keys; quota = spent c.0; own = c.1 }
-            ]) ∷ map (walked k) (walkers lists counters)
+        ≡ (elim b as (λ _. Walker DocKey) [
+          | true ↦ record { has = has_key keys; quota = c.0; own = c.1 + 1 }
+          | false ↦ record { has = has_key keys; quota = spent c.0; own = c.1 }
+        ]) ∷ map (walked k) (walkers lists counters)
     by true rest = ap (λ (ws : List (Walker DocKey)). (record { has = has_key keys; quota = c.0; own = c.1 + 1 }) ∷ ws) rest
     by false rest = ap (λ (ws : List (Walker DocKey)). (record { has = has_key keys; quota = spent c.0; own = c.1 }) ∷ ws) rest
 
@@ -153,8 +153,8 @@ module _ (k : DocKey) (lists : List (List DocKey)) (olds nows : List Counter) (i
       map-set counter_of nows i new
       ∙ ap (λ (cs : List (Quota × ℕ)). set cs i (counter_of new)) so_far
       ∙ ap (λ (c : Quota × ℕ). set (counted_to i (holders k lists) (map counter_of olds)) i c)
-        (counts ∙ ap (λ h. counted h (counter_of old)) (asked ∙ has_first-is (get_or lists i []) (united lists) k first ∙ sym (get_or-holders k lists i))
-          ∙ ap (counted (get_or (holders k lists) i false)) (ap counter_of is ∙ sym (get_or-map counter_of olds i old (counter_of old) within)))
+      (counts ∙ ap (λ h. counted h (counter_of old)) (asked ∙ has_first-is (get_or lists i []) (united lists) k first ∙ sym (get_or-holders k lists i))
+      ∙ ap (counted (get_or (holders k lists) i false)) (ap counter_of is ∙ sym (get_or-map counter_of olds i old (counter_of old) within)))
       ∙ counted_next i (holders k lists) (map counter_of olds) (counter_of old) (omega (arith, as_many, length-map lists (λ (keys : List DocKey). has_key keys k))) (omega (arith, length-map olds counter_of))
       ∙ ap (λ (n : ℕ). counted_to n (holders k lists) (map counter_of olds)) (one_more i)
 

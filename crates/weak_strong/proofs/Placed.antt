@@ -42,4 +42,3 @@ among y x (z ∷ zs) all has = by (standing z x) (among y x zs (IsBeforeAll-tail
 pub rest_later : (keys : List DocKey) (k : DocKey) → IsRanked keys → slice_get keys 0 ≡ Some k → (x : DocKey) → has_key (drop 1 keys) x ≡ true → is_before k x ≡ true
 rest_later [] k ranks e x has = cc
 rest_later (y ∷ ys) k ranks e x has = let s : y ≡ k = cc in subst (λ (z : DocKey). is_before z x ≡ true) s (among y x ys ranks.0 has)
-

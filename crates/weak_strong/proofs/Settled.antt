@@ -1,24 +1,21 @@
 -- A walk that passes what it refuses.
-use Rattle.std.proofs.Common.{◌≡◌, ℕ, ◌+◌, ◌-◌, ◌*◌, ◌^◌, ◌<◌, ◌≤◌, Bool, true, false, ◌||◌, List, [], ◌∷◌, Option, None, Some, refl, sym, ◌∙◌, ap, subst, arith, length, map, get_or, slice_get, drop, All}
+use Rattle.std.proofs.Common.{◌≡◌, ℕ, ◌+◌, ◌<◌, ◌≤◌, Bool, true, false, ◌||◌, List, [], ◌∷◌, Some, refl, sym, ◌∙◌, ap, subst, arith, map, slice_get, drop, All}
 use Rattle.std.proofs.lemmas.List.{get_or-map, length-map}
 use Rattle.std.proofs.lemmas.List.Elements.{All-map}
 use Rattle.std.specs.Ordering.{is_eq}
 use Rattle.uni_base.specs.declared.entity.DocKey.{DocKey}
 use Rattle.uni_base.specs.RankOrder.{doc_cmp}
-use Rattle.uni_base.specs.Cursors.{is_before, IsRanked, keys_from}
+use Rattle.uni_base.specs.Cursors.{IsRanked}
 use Rattle.uni_base.specs.KeySets.{has_key, united, KeepsKeys}
 use Rattle.uni_base.specs.Walks.{Quota, walked}
-use Rattle.uni_base.proofs.RankedLemmas.{keys_from-before, keys_from-here}
-use Rattle.uni_base.proofs.UnitedLemmas.{IsRanked-united, KeepsKeys_trans}
+use Rattle.uni_base.proofs.UnitedLemmas.{IsRanked-united}
 use Rattle.uni_base.proofs.WalkLaws.{walk, weak_is_walk, strong_is_walk}
 use Rattle.weak_strong.specs.declared.rule.Counter.{Counter}
 use Rattle.weak_strong.specs.declared.rule.Rule.{Rule}
 use Rattle.weak_strong.specs.declared.rule.Rule.TheVariants.{Weak, Strong}
 use Rattle.weak_strong.specs.Marks.{counter_of}
-use Rattle.weak_strong.specs.Places.{place_of}
 use Rattle.weak_strong.specs.Rules.{keeps_by, walkers}
 use Rattle.weak_strong.specs.Walking.{IsCounted, IsSettled, walk_of}
-use Rattle.weak_strong.proofs.Counting.{first_among}
 use Rattle.weak_strong.proofs.Walked.{walk_kept, IsRanked-walk, has_key-walk, walk_keeps, walk_refuses}
 
 pub walk_of-is : (rule : Rule) (lists : List (List DocKey)) (counters : List (Quota × ℕ)) (kept : ℕ) → walk_of rule lists counters kept ≡ walk (keeps_by rule) kept (walkers lists counters) (united lists)

@@ -3,7 +3,6 @@ use Rattle.std.proofs.Common.{◌≡◌, ℕ, List, [], ◌∷◌, ◌++◌, ref
 use Rattle.std.proofs.lemmas.List.{append-nil}
 use Rattle.std.proofs.lemmas.Simd.{map-map}
 use Rattle.uni_base.specs.declared.entity.DocKey.{DocKey}
-use Rattle.uni_base.specs.KeySets.{united, KeepsKeys}
 use Rattle.uni_base.specs.Walks.{Quota}
 use Rattle.weak_strong.specs.declared.rule.Rule.{Rule}
 use Rattle.weak_strong.specs.Walking.{walk_of}

@@ -1,18 +1,17 @@
 -- Walks along what several operands have left.
-use Rattle.std.proofs.Common.{◌≡◌, ℕ, zero, suc, ◌+◌, ◌<◌, ◌≤◌, Bool, true, false, ◌&&◌, ◌||◌, cond, List, [], ◌∷◌, Option, None, Some, refl, sym, ◌∙◌, ap, subst, arith, length, map, slice_get, All, drop}
+use Rattle.std.proofs.Common.{◌≡◌, ℕ, ◌+◌, Bool, true, false, ◌&&◌, ◌||◌, cond, List, [], ◌∷◌, Some, refl, sym, ◌∙◌, ap, subst, map, slice_get, drop}
 use Rattle.std.specs.List.{list_any, list_all}
 use Rattle.std.specs.Ordering.{is_eq}
-use Rattle.std.proofs.lemmas.List.Elements.{All-nil, All-cons, All-head, All-tail}
 use Rattle.uni_base.specs.declared.entity.DocKey.{DocKey}
 use Rattle.uni_base.specs.RankOrder.{doc_cmp}
-use Rattle.uni_base.specs.Cursors.{is_before, IsRanked, keys_from}
+use Rattle.uni_base.specs.Cursors.{IsRanked}
 use Rattle.uni_base.specs.KeySets.{has_key, holders, united, KeepsKeys}
-use Rattle.uni_base.specs.Walks.{Quota, Walker, spent, walked, lets_pass, has_share, weak_keeps, weak_walk, strong_keeps, strong_walk}
+use Rattle.uni_base.specs.Walks.{Quota, Walker, spent, walked, lets_pass, has_share}
 use Rattle.uni_base.proofs.RankedLemmas.{IsBeforeAll, IsBeforeAll-head, IsBeforeAll-tail, IsBeforeAll-cons, is_eq_self}
-use Rattle.uni_base.proofs.WalkLaws.{walk, weak_is_walk, strong_is_walk}
+use Rattle.uni_base.proofs.WalkLaws.{walk}
 use Rattle.weak_strong.specs.declared.rule.Rule.{Rule}
 use Rattle.weak_strong.specs.declared.rule.Rule.TheVariants.{Weak, Strong}
-use Rattle.weak_strong.specs.Rules.{keeps_by, allows_by, walkers, counted}
+use Rattle.weak_strong.specs.Rules.{keeps_by, walkers}
 
 -- operands that agree on an entity, and on all that the walk goes by
 abbrev pub AgreeAt : DocKey → List (Walker DocKey) → List (Walker DocKey) → Type 0
@@ -69,7 +68,7 @@ agree_walked x y (w ∷ ws) (u ∷ us) at also = by (w.has x) (u.has x) at.0 (ag
   where
     by : (a b : Bool) → a ≡ b → AgreeAt y (map (walked x) ws) (map (walked x) us)
         → AgreeAt y ((elim a as (λ _. Walker DocKey) [ true ↦ record w { own = w.own + 1 } | false ↦ record w { quota = spent w.quota } ]) ∷ map (walked x) ws)
-          ((elim b as (λ _. Walker DocKey) [ true ↦ record u { own = u.own + 1 } | false ↦ record u { quota = spent u.quota } ]) ∷ map (walked x) us)
+        ((elim b as (λ _. Walker DocKey) [ true ↦ record u { own = u.own + 1 } | false ↦ record u { quota = spent u.quota } ]) ∷ map (walked x) us)
     by true true e rest = (also.0, also.1, ap (λ n. n + 1) also.2, rest)
     by true false e rest = absurd cc
     by false true e rest = absurd cc
@@ -91,7 +90,7 @@ walk_agree rule kept ws us (x ∷ xs) agree =
 
     by : (b : Bool) → walk (keeps_by rule) (kept + 1) (map (walked x) ws) xs ≡ walk (keeps_by rule) (kept + 1) (map (walked x) us) xs → walk (keeps_by rule) kept ws xs ≡ walk (keeps_by rule) kept us xs
         → (elim b as (λ _. List DocKey) [ true ↦ x ∷ walk (keeps_by rule) (kept + 1) (map (walked x) ws) xs | false ↦ walk (keeps_by rule) kept ws xs ])
-          ≡ (elim b as (λ _. List DocKey) [ true ↦ x ∷ walk (keeps_by rule) (kept + 1) (map (walked x) us) xs | false ↦ walk (keeps_by rule) kept us xs ])
+        ≡ (elim b as (λ _. List DocKey) [ true ↦ x ∷ walk (keeps_by rule) (kept + 1) (map (walked x) us) xs | false ↦ walk (keeps_by rule) kept us xs ])
     by true e f = ap (λ (ks : List DocKey). x ∷ ks) e
     by false e f = f
 

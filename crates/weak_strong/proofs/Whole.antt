@@ -13,14 +13,12 @@ use Rattle.uni_base.specs.Walks.{Quota, walked}
 use Rattle.uni_base.proofs.UnitedLemmas.{IsRanked-united, KeepsKeys_trans}
 use Rattle.weak_strong.specs.declared.rule.Counter.{Counter}
 use Rattle.weak_strong.specs.declared.rule.Rule.{Rule}
-use Rattle.weak_strong.specs.declared.rule.Rule.TheVariants.{Weak, Strong}
 use Rattle.weak_strong.specs.Marks.{counter_of}
-use Rattle.weak_strong.specs.Places.{place_of}
-use Rattle.weak_strong.specs.Rules.{keeps_by, walkers}
-use Rattle.weak_strong.specs.Walking.{IsCounted, IsSettled, IsWalking, walk_of}
+use Rattle.weak_strong.specs.Rules.{walkers}
+use Rattle.weak_strong.specs.Walking.{IsCounted, IsSettled, walk_of}
 use Rattle.weak_strong.proofs.Counting.{first_among}
 use Rattle.weak_strong.proofs.Placed.{place_later, rest_later}
-use Rattle.weak_strong.proofs.Settled.{IsRanked-walk_of, has_key-drop, kept_on, narrowed, owns_up, settled_first, walk_of-united}
+use Rattle.weak_strong.proofs.Settled.{IsRanked-walk_of, kept_on, owns_up, settled_first, walk_of-united}
 
 abbrev pub Whole : Type 0 → Type 0
 Whole C = Rule × List C × List (Quota × ℕ) × ℕ
@@ -110,7 +108,7 @@ module _ {C : Type 0} (view : C → List DocKey) (v : Whole C) (rule : Rule) (ca
   stepped_operands =
       subst (λ (w : Whole C). KeepsKeys (walk_of w.0 news after next) (map view w.1) news) is
       (KeepsKeys_trans (united mids) (walk_of rule news after next) (map view cands) mids news
-        (λ k has. walk_of-united rule mids after next k (ap (λ (ks : List DocKey). has_key ks k) (sym walks) ∙ has)) keeps settles)
+      (λ k has. walk_of-united rule mids after next k (ap (λ (ks : List DocKey). has_key ks k) (sym walks) ∙ has)) keeps settles)
 
 -- ---- a seek is over
 

@@ -1,5 +1,5 @@
 -- A walk along the keys of several operands.
-use Rattle.std.specs.Prelude.{◌≡◌, ℕ, ◌≤◌, true, List, length, map, Some, slice_get, All}
+use Rattle.std.specs.Prelude.{◌≡◌, ℕ, ◌≤◌, true, List, length, Some, slice_get, All}
 use Rattle.uni_base.specs.declared.entity.DocKey.{DocKey}
 use Rattle.uni_base.specs.KeySets.{has_key, united}
 use Rattle.uni_base.specs.Walks.{Quota, weak_walk, strong_walk}

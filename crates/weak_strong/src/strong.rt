@@ -43,7 +43,10 @@ fn allowance(weight: Option<Fraction>) -> Allowance
 impl<C: DocCursor + Drop> StrongOrCursor<C> {
     /// The cursor over these operands with their weights, if they have one. It is at its end where there is none. Only here is
     /// memory asked for.
-    pub fn new(alloc: Global, operands: Vec<(C, Option<Fraction>)>) -> Result<StrongOrCursor<C>, AllocError>
+    pub fn new(
+        alloc: Global,
+        operands: Vec<(C, Option<Fraction>)>,
+    ) -> Result<StrongOrCursor<C>, AllocError>
         ensures keys { IfOk result (λ c. let lists = map (λ o. C.remaining o.0) operands.items in
             strong_keys (map C.remaining c.0) c.1 c.2
             ≡ strong_walk 0 (walkers lists (map (λ o. (strong_quota o.1, 0)) operands.items)) (united lists)) }

@@ -75,7 +75,11 @@ fn pair(alloc: Global, a: &[u64], b: &[u64]) -> Result<Vec<OrCursor<OneKey>>, Fa
 }
 
 // The keys that a cursor has from a key on, or from its first on.
-fn keys<C: DocCursor>(alloc: Global, cursor: &mut C, from: Option<DocKey>) -> Result<Vec<u64>, Fail> {
+fn keys<C: DocCursor>(
+    alloc: Global,
+    cursor: &mut C,
+    from: Option<DocKey>,
+) -> Result<Vec<u64>, Fail> {
     let mut ids = Vec::new(alloc);
     if let Some(key) = from {
         cursor.seek(key);
@@ -89,7 +93,13 @@ fn keys<C: DocCursor>(alloc: Global, cursor: &mut C, from: Option<DocKey>) -> Re
     Ok(ids)
 }
 
-fn answer(alloc: Global, question: Question, a: &[u64], b: &[u64], from: Option<DocKey>) -> Result<Vec<u64>, Fail> {
+fn answer(
+    alloc: Global,
+    question: Question,
+    a: &[u64],
+    b: &[u64],
+    from: Option<DocKey>,
+) -> Result<Vec<u64>, Fail> {
     match question {
         Question::And => keys(alloc, &mut AndCursor::new(pair(alloc, a, b)?), from),
         Question::Or => keys(alloc, &mut OrCursor::new(pair(alloc, a, b)?), from),
@@ -139,15 +149,50 @@ fn questions_have_these_keys_from_each_key_on(rt: HostRuntime) -> Result<(), Fai
         (Question::Or, &FRIENDS, &ROMANS, &[2, 3, 5, 6, 4]),
         (Question::Or, none, none, none),
         (Question::Or, &[1], &[4], &[1, 4]),
-        (Question::Weak(WeakMark::Hits(1)), &FRIENDS, &ROMANS, &[2, 5, 6]),
+        (
+            Question::Weak(WeakMark::Hits(1)),
+            &FRIENDS,
+            &ROMANS,
+            &[2, 5, 6],
+        ),
         (Question::Weak(WeakMark::Hits(1)), &[2, 3], &ROMANS, &[2, 5]),
-        (Question::Weak(WeakMark::Hits(0)), &FRIENDS, &ROMANS, &[2, 5]),
-        (Question::Weak(WeakMark::Weight(half)), &[2], &[2, 6, 4], &[2, 6, 4]),
-        (Question::Weak(WeakMark::Weight(most)), &[2], &[2, 6, 4], &[2, 6]),
-        (Question::Weak(WeakMark::Weight(all)), &[2], &[2, 6, 4], &[2]),
+        (
+            Question::Weak(WeakMark::Hits(0)),
+            &FRIENDS,
+            &ROMANS,
+            &[2, 5],
+        ),
+        (
+            Question::Weak(WeakMark::Weight(half)),
+            &[2],
+            &[2, 6, 4],
+            &[2, 6, 4],
+        ),
+        (
+            Question::Weak(WeakMark::Weight(most)),
+            &[2],
+            &[2, 6, 4],
+            &[2, 6],
+        ),
+        (
+            Question::Weak(WeakMark::Weight(all)),
+            &[2],
+            &[2, 6, 4],
+            &[2],
+        ),
         (Question::Weak(WeakMark::Weight(all)), &[3, 5], &[5], &[5]),
-        (Question::Strong(Some(half)), &ROMANS, &FRIENDS, &[2, 3, 5, 6, 4]),
-        (Question::Strong(Some(half)), &[6, 4], &[3, 5, 6], &[3, 6, 4]),
+        (
+            Question::Strong(Some(half)),
+            &ROMANS,
+            &FRIENDS,
+            &[2, 3, 5, 6, 4],
+        ),
+        (
+            Question::Strong(Some(half)),
+            &[6, 4],
+            &[3, 5, 6],
+            &[3, 6, 4],
+        ),
         (Question::Strong(Some(all)), &[6, 4], &FRIENDS, &[6, 4]),
         (Question::Strong(None), &FRIENDS, &ROMANS, &[2, 3, 5, 6, 4]),
     ];

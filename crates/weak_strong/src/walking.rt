@@ -28,7 +28,12 @@ fn next(kept: u128, _key: DocKey) -> u128
 }
 
 // Whether the walk keeps the first of the candidates; `next` keys are kept with it.
-fn is_kept<C: DocCursor>(rule: Rule, candidates: &OrCursor<C>, counters: &[Counter], next: u128) -> bool
+fn is_kept<C: DocCursor>(
+    rule: Rule,
+    candidates: &OrCursor<C>,
+    counters: &[Counter],
+    next: u128,
+) -> bool
     requires next { next ≤ 2 ^ 97 }
     requires count { length counters.now ≡ length candidates.now }
     requires owns { All (λ counter. counter.own < next) counters.now }
@@ -158,7 +163,12 @@ impl<C: DocCursor> Walking<C> {
             count(&self.candidates, &mut self.counters, kept);
             self.kept = kept;
             self.candidates.step();
-            settle(self.rule, &mut self.candidates, self.counters.as_slice(), kept);
+            settle(
+                self.rule,
+                &mut self.candidates,
+                self.counters.as_slice(),
+                kept,
+            );
         }
     }
 

@@ -1,6 +1,5 @@
-use Rattle.std.proofs.Common.{Bool, List, ◌≡◌, ◌++◌, ◌∷◌, [], ◌∙◌, ap, sym, map, take, length, length-append, arith}
-use Rattle.std.proofs.lemmas.List.{map-append}
-use Rattle.lineage_tree.specs.Accepted.{some_accepted, verdicts_of}
+use Rattle.std.proofs.Common.{◌∷◌, [], ◌∙◌, ap, sym, map, take, length, length-append, arith}
+use Rattle.lineage_tree.specs.Accepted.{verdicts_of}
 use Rattle.lineage_tree.specs.Entries.{entries_of}
 use Rattle.lineage_tree.specs.Tree.{tree_of}
 use Rattle.lineage_tree.proofs.EntryLemmas.{Book, taken_more, tree_at-names}

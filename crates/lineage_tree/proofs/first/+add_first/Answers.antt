@@ -1,4 +1,4 @@
-use Rattle.std.proofs.Common.{refl, ◌++◌, ◌≡◌, ◌<◌, Bool, true, List, ◌∙◌, ap, sym, subst, map, length, arith}
+use Rattle.std.proofs.Common.{refl, ◌++◌, ◌≡◌, List, ◌∙◌, ap, sym, map, length, arith}
 use Rattle.std.proofs.lemmas.Result.{on_ok_weaker}
 use Rattle.uni_base.specs.declared.edge.EdgeRef.{EdgeRef}
 use Rattle.uni_base.specs.declared.edge.Held.{Held}
@@ -9,7 +9,7 @@ use Rattle.lineage_tree.specs.Lists.{lists_of, choices_of, members_lists}
 use Rattle.lineage_tree.specs.Tree.{tree_of, trees_of}
 use Rattle.lineage_tree.proofs.AddedLemmas.{turn_names, turn_size, item_some, after_some, all_turned, first_found, later_some, later_first, all_added, none_left, all_lists, any_lists}
 use Rattle.lineage_tree.proofs.EntryLemmas.{Book, entry_within, tree_at-below, tree_at-lists}
-use Rattle.lineage_tree.proofs.Sizes.{entry_smaller, forest_size_by, size_by, sizes_of}
+use Rattle.lineage_tree.proofs.Sizes.{entry_smaller, size_by, sizes_of}
 use Rattle.lineage_tree.proofs.TreeLemmas.{tree_of-entry}
 use Rattle.lineage_tree.proofs.first.+add_first.Goals as goal
 
@@ -24,10 +24,11 @@ loop-member-preserved g t c =
       first = λ accepts judges given some.
           let so_far = c.loop-member.invariant.first accepts judges given some in
           let whole : List Held = first_or_none accepts (choices_of book (trees_of items)) in
-          let here = item_some items i item c.loop-member-test.true c.member-item.is accepts book c.args.edges.now c.loop-member.edges c.add_first.new.edges whole so_far.0 so_far.1 in
-          (after_some items i item c.loop-member-test.true c.member-item.is accepts book c.args.edges.now c.loop-member.edges c.add_first.new.edges whole so_far.0 so_far.1,
-           all_turned items i item c.loop-member-test.true c.member-item.is accepts book c.args.edges.now c.loop-member.edges c.add_first.new.edges whole so_far.0 so_far.1
-           (c.in_ok-add_first-in-AllOf.ensures accepts judges given here));
+          let here = item_some items i item c.loop-member-test.true c.member-item.is accepts book c.args.edges.now c.loop-member.edges c.add_first.new.edges whole so_far.0 so_far.1 in (
+            after_some items i item c.loop-member-test.true c.member-item.is accepts book c.args.edges.now c.loop-member.edges c.add_first.new.edges whole so_far.0 so_far.1,
+            all_turned items i item c.loop-member-test.true c.member-item.is accepts book c.args.edges.now c.loop-member.edges c.add_first.new.edges whole so_far.0 so_far.1
+                (c.in_ok-add_first-in-AllOf.ensures accepts judges given here),
+          );
     }
 
 pub loop-member-2-preserved : goal.loop-member-2-preserved
@@ -42,9 +43,10 @@ loop-member-2-preserved g t c =
       first = λ accepts judges given some.
           let so_far = c.loop-member-2.invariant.first accepts judges given some in
           let whole : List Held = first_or_none accepts (members_lists book (trees_of items)) in
-          let none = sym (c.holds.ensures accepts book judges given) ∙ c.if-holds.false in
-          (later_some items i item c.loop-member-2-test.true c.member-item-in-loop-member-2.is accepts book whole so_far.0 so_far.1 none,
-           later_first items i item c.loop-member-2-test.true c.member-item-in-loop-member-2.is accepts book whole so_far.0 so_far.1 none);
+          let none = sym (c.holds.ensures accepts book judges given) ∙ c.if-holds.false in (
+            later_some items i item c.loop-member-2-test.true c.member-item-in-loop-member-2.is accepts book whole so_far.0 so_far.1 none,
+            later_first items i item c.loop-member-2-test.true c.member-item-in-loop-member-2.is accepts book whole so_far.0 so_far.1 none,
+          );
     }
 
 pub returns-then-holds : goal.returns-then-holds
@@ -53,14 +55,14 @@ returns-then-holds g t c =
     let book : Book = entries_of (map tree_of c.args.entries.now) in
     on_ok_weaker c.add_first-then-holds.result
     (λ added accepts judges given some.
-      let lists = any_lists book c.args.tree.now items c.in-AnyOf.members c.in-AnyOf.is c.deref-member-items-in-AnyOf.ensures.value in
-      let so_far = c.loop-member-2.invariant.first accepts judges given (ap (some_accepted accepts) (sym lists) ∙ some) in
-      let whole : List Held = first_or_none accepts (members_lists book (trees_of items)) in
-      let here = sym (c.holds.ensures accepts book judges given) ∙ c.if-holds.true in
-      added accepts judges given here
-      ∙ ap (λ (es : List EdgeRef). es ++ edges_of (first_or_none accepts (lists_of book (tree_of item)))) c.loop-member-2.invariant.added
-      ∙ ap (λ (l : List Held). c.args.edges.now ++ edges_of l)
-        (first_found items i item c.loop-member-2-test.true c.member-item-in-loop-member-2.is accepts book whole so_far.0 so_far.1 here ∙ ap (first_or_none accepts) (sym lists)))
+    let lists = any_lists book c.args.tree.now items c.in-AnyOf.members c.in-AnyOf.is c.deref-member-items-in-AnyOf.ensures.value in
+    let so_far = c.loop-member-2.invariant.first accepts judges given (ap (some_accepted accepts) (sym lists) ∙ some) in
+    let whole : List Held = first_or_none accepts (members_lists book (trees_of items)) in
+    let here = sym (c.holds.ensures accepts book judges given) ∙ c.if-holds.true in
+    added accepts judges given here
+    ∙ ap (λ (es : List EdgeRef). es ++ edges_of (first_or_none accepts (lists_of book (tree_of item)))) c.loop-member-2.invariant.added
+    ∙ ap (λ (l : List Held). c.args.edges.now ++ edges_of l)
+    (first_found items i item c.loop-member-2-test.true c.member-item-in-loop-member-2.is accepts book whole so_far.0 so_far.1 here ∙ ap (first_or_none accepts) (sym lists)))
     c.add_first-then-holds.ensures
 
 pub returns-after-loop-member : goal.returns-after-loop-member
@@ -85,12 +87,12 @@ returns-in-Entry g t c =
     let book : Book = entries_of (map tree_of c.args.entries.now) in
     on_ok_weaker c.add_first-in-Entry.result
     (λ added accepts judges given some.
-      let lists : lists_of book (tree_of c.args.tree.now) ≡ lists_of book (tree_of c.index-entries-entry.result) =
-        ap (λ (tree : Lineage). lists_of book (tree_of tree)) c.in-Entry.is ∙ ap (lists_of book) (tree_of-entry c.in-Entry.entry)
-        ∙ sym (tree_at-lists c.args.entries.now book c.in-Entry.entry c.index-entries-entry.result refl
-          (entry_within (length c.args.entries.now) c.in-Entry.entry (ap (names_below (length c.args.entries.now)) (sym (ap tree_of c.in-Entry.is ∙ tree_of-entry c.in-Entry.entry)) ∙ c.requires.names)) c.index-entries-entry.is c.requires.book) in
-      added accepts judges given (ap (some_accepted accepts) (sym lists) ∙ some)
-      ∙ ap (λ (ls : List (List Held)). c.args.edges.now ++ edges_of (first_or_none accepts ls)) (sym lists))
+    let lists : lists_of book (tree_of c.args.tree.now) ≡ lists_of book (tree_of c.index-entries-entry.result) =
+    ap (λ (tree : Lineage). lists_of book (tree_of tree)) c.in-Entry.is ∙ ap (lists_of book) (tree_of-entry c.in-Entry.entry)
+    ∙ sym (tree_at-lists c.args.entries.now book c.in-Entry.entry c.index-entries-entry.result refl
+    (entry_within (length c.args.entries.now) c.in-Entry.entry (ap (names_below (length c.args.entries.now)) (sym (ap tree_of c.in-Entry.is ∙ tree_of-entry c.in-Entry.entry)) ∙ c.requires.names)) c.index-entries-entry.is c.requires.book) in
+    added accepts judges given (ap (some_accepted accepts) (sym lists) ∙ some)
+    ∙ ap (λ (ls : List (List Held)). c.args.edges.now ++ edges_of (first_or_none accepts ls)) (sym lists))
     c.add_first-in-Entry.ensures
 
 pub add_first-requires-in-Entry : goal.add_first-requires-in-Entry
@@ -99,6 +101,16 @@ add_first-requires-in-Entry g t c κs within =
     let inside = entry_within (length c.args.entries.now) c.in-Entry.entry (ap (names_below (length c.args.entries.now)) (sym is) ∙ c.requires.names) in
     let smaller = entry_smaller c.args.entries.now c.in-Entry.entry c.index-entries-entry.result inside c.index-entries-entry.is c.requires.book in
     let whole = ap (size_by (sizes_of c.args.entries.now)) is in
-    let size : size_by (sizes_of c.args.entries.now) (tree_of c.args.tree.now) ≡ t = c.decreases in
-    (omega (arith, smaller, whole, size), (within, (c.requires.callable, (c.requires.book,
-      (tree_at-below c.args.entries.now c.in-Entry.entry c.index-entries-entry.result inside c.index-entries-entry.is c.requires.book, c.requires.count)))))
+    let size : size_by (sizes_of c.args.entries.now) (tree_of c.args.tree.now) ≡ t = c.decreases in (
+      omega (arith, smaller, whole, size),
+      (
+        within,
+        (
+          c.requires.callable,
+          (
+            c.requires.book,
+            (tree_at-below c.args.entries.now c.in-Entry.entry c.index-entries-entry.result inside c.index-entries-entry.is c.requires.book, c.requires.count),
+          ),
+        ),
+      ),
+    )

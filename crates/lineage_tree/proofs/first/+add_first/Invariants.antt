@@ -20,7 +20,7 @@ invariant-loop-member g l =
       size : forest_size_by (sizes_of l.entries) rest ≤ forest_size_by (sizes_of l.entries) (trees_of l.member-items);
       first : (accepts : Held → Bool) → IsJudge g.F.Fn l.judge accepts → l.verdicts ≡ verdicts_of accepts book → some_accepted accepts (choices_of book (trees_of l.member-items)) ≡ true
           → (some_accepted accepts (choices_of book rest) ≡ true)
-            × (l.edges ++ edges_of (first_or_none accepts (choices_of book rest)) ≡ l.initial.edges ++ edges_of (first_or_none accepts (choices_of book (trees_of l.member-items))));
+          × (l.edges ++ edges_of (first_or_none accepts (choices_of book rest)) ≡ l.initial.edges ++ edges_of (first_or_none accepts (choices_of book (trees_of l.member-items))));
     }
 
 abbrev pub invariant-loop-member-2 : goal.invariant-loop-member-2
@@ -33,5 +33,5 @@ invariant-loop-member-2 g l =
       size : forest_size_by (sizes_of l.entries) rest ≤ forest_size_by (sizes_of l.entries) (trees_of l.member-items);
       first : (accepts : Held → Bool) → IsJudge g.F.Fn l.judge accepts → l.verdicts ≡ verdicts_of accepts book → some_accepted accepts (members_lists book (trees_of l.member-items)) ≡ true
           → (some_accepted accepts (members_lists book rest) ≡ true)
-            × (first_or_none accepts (members_lists book rest) ≡ first_or_none accepts (members_lists book (trees_of l.member-items)));
+          × (first_or_none accepts (members_lists book rest) ≡ first_or_none accepts (members_lists book (trees_of l.member-items)));
     }

@@ -1,6 +1,6 @@
-use Rattle.std.proofs.Common.{◌≡◌, ◌+◌, ◌<◌, ◌≤◌, ◌≢◌, ◌∙◌, ap, sym, subst, length, map, get_or, set, arith}
+use Rattle.std.proofs.Common.{◌≡◌, ◌<◌, ◌≤◌, ◌∙◌, sym, subst, length, map, get_or, arith}
 use Rattle.std.proofs.lemmas.List.{length-map}
-use Rattle.std.proofs.lemmas.List.{get_or-set_other, length-set, get_or_default}
+use Rattle.std.proofs.lemmas.List.{get_or-set_other, length-set}
 use Rattle.std.proofs.lemmas.List.Elements.{All-set}
 use Rattle.weak_strong.specs.declared.rule.Counter.{Counter}
 use Rattle.weak_strong.proofs.Counting.{counted_more, counted_all, own_counted}
@@ -15,7 +15,7 @@ pub loop-i-preserved : goal.loop-i-preserved
 loop-i-preserved g c =
     let within : c.loop-i.i < length c.args.counters.now.items = omega (arith, c.args.counters.now.ok.0) in
     let is : c.index-counter.result.now ≡ get_or c.args.counters.now.items c.loop-i.i c.index-counter.result.now =
-      c.index-counter.ensures ∙ c.loop-i.invariant.untouched c.loop-i.i c.index-counter.result.now (omega arith) in
+    c.index-counter.ensures ∙ c.loop-i.invariant.untouched c.loop-i.i c.index-counter.result.now (omega arith) in
     let below = c.requires.owns c.loop-i.i c.index-counter.result.now within in
     let own = own_counted c.index-counter.result.now c.count.result c.matches.result c.args.next c.count.ensures (subst (λ (counter : Counter). counter.own < c.args.next) (sym is) below) in
     record {

@@ -1,4 +1,4 @@
-use Rattle.std.proofs.Common.{◌≡◌, ◌-◌, ◌+◌, ◌∙◌, ap, sym, map, arith}
+use Rattle.std.proofs.Common.{◌≡◌, ◌-◌, ◌∙◌, ap, sym, map, arith}
 use Rattle.uni_base.specs.KeySets.{united}
 use Rattle.uni_base.proofs.UnitedLemmas.{KeepsKeys_trans}
 use Rattle.weak_strong.specs.Marks.{counter_of}

@@ -1,8 +1,7 @@
-use Rattle.std.proofs.Common.{◌≡◌, ◌++◌, List, Option, Some, None, true, ◌∙◌, ap, sym, map}
+use Rattle.std.proofs.Common.{◌≡◌, ◌++◌, List, Some, true, ◌∙◌, ap, sym, map}
 use Rattle.std.specs.Option.{option_map}
 use Rattle.uni_base.specs.declared.edge.EdgeRef.{EdgeRef}
-use Rattle.uni_base.specs.declared.edge.Held.{Held}
-use Rattle.lineage_tree.specs.Accepted.{edges_of, first_accepted, first_or_none, some_accepted, verdicts_of}
+use Rattle.lineage_tree.specs.Accepted.{edges_of, first_or_none, some_accepted, verdicts_of}
 use Rattle.lineage_tree.specs.Entries.{entries_of, names_below}
 use Rattle.lineage_tree.specs.Lists.{lists_of}
 use Rattle.lineage_tree.specs.Tree.{tree_of}
@@ -28,7 +27,7 @@ returns g c = λ accepts judges given.
     let some : some_accepted accepts (lists_of c.args.book.now tree) ≡ true = sym (c.holds.ensures accepts c.args.book.now judges given) ∙ c.if-not-holds.false in
     let added = c.in_ok-add_first.ensures accepts judges (given ∙ ap (verdicts_of accepts) (sym lists)) (ap (λ (b : Book). some_accepted accepts (lists_of b tree)) lists ∙ some) in
     ap Some
-      (added
-        ∙ ap (λ (es : List EdgeRef). es ++ edges_of (first_or_none accepts (lists_of (entries_of (map tree_of c.entries.result.now)) tree))) c.new-edges.ensures
-        ∙ ap (λ (b : Book). edges_of (first_or_none accepts (lists_of b tree))) lists)
+    (added
+    ∙ ap (λ (es : List EdgeRef). es ++ edges_of (first_or_none accepts (lists_of (entries_of (map tree_of c.entries.result.now)) tree))) c.new-edges.ensures
+    ∙ ap (λ (b : Book). edges_of (first_or_none accepts (lists_of b tree))) lists)
     ∙ sym (ap (option_map edges_of) (first_is accepts (lists_of c.args.book.now tree) some))

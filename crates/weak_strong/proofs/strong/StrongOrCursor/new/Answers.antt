@@ -1,12 +1,10 @@
-use Rattle.std.proofs.Common.{◌≡◌, ◌∙◌, List, ap, sym, subst, length, map, arith}
+use Rattle.std.proofs.Common.{◌≡◌, ◌∙◌, List, subst, length, map, arith}
 use Rattle.std.specs.Vec.Iter.{into_iter_items}
 use Rattle.uni_base.specs.declared.entity.DocKey.{DocKey}
 use Rattle.uni_base.specs.KeySets.{KeepsKeys}
-use Rattle.uni_base.specs.Walks.{Quota}
-use Rattle.weak_strong.specs.declared.rule.Rule.{Rule}
 use Rattle.weak_strong.specs.declared.rule.Rule.TheVariants.{Strong}
 use Rattle.weak_strong.specs.Marks.{counter_of, strong_quota}
-use Rattle.weak_strong.specs.Walking.{strong_keys, walk_of}
+use Rattle.weak_strong.specs.Walking.{strong_keys}
 use Rattle.weak_strong.proofs.Started.{started_lists, started_walk}
 use Rattle.weak_strong.proofs.strong.StrongOrCursor.new.Goals as goal
 
@@ -24,6 +22,6 @@ returns-clause-operands g c =
     let over : length (into_iter_items c.loop-cursor.cursor-iterator) ≡ 0 = omega (arith, c.in-None.ensures.steps.0, c.loop-cursor.cursor-iterator.rest.ok.0) in
     subst (λ (lists : List (List DocKey)). KeepsKeys (strong_keys (map view c.new.result.1) c.new.result.2 c.new.result.3) lists (map view c.new.result.1))
     (started_lists view strong_quota c.args.operands.items c.loop-cursor.yielded (into_iter_items c.loop-cursor.cursor-iterator) c.into_both-cursors.result.0.items c.loop-cursor.parts.1
-      (map counter_of c.into_both-cursors.result.1.items) c.loop-cursor.invariant.all over (c.into_both-cursors.ensures.cursors ∙ c.loop-cursor.invariant.cursors) c.loop-cursor.invariant.quotas
-      c.into_both-cursors.ensures.counters)
+    (map counter_of c.into_both-cursors.result.1.items) c.loop-cursor.invariant.all over (c.into_both-cursors.ensures.cursors ∙ c.loop-cursor.invariant.cursors) c.loop-cursor.invariant.quotas
+    c.into_both-cursors.ensures.counters)
     c.new.ensures.operands

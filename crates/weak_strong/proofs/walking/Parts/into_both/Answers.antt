@@ -1,4 +1,4 @@
-use Rattle.std.proofs.Common.{ℕ, List, ◌∙◌, ap, map}
+use Rattle.std.proofs.Common.{List, ◌∙◌, ap, map}
 use Rattle.uni_base.specs.Walks.{Quota}
 use Rattle.weak_strong.proofs.Counting.{fresh_counters}
 use Rattle.weak_strong.proofs.walking.Parts.into_both.Goals as goal

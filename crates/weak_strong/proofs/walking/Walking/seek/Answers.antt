@@ -1,4 +1,4 @@
-use Rattle.std.proofs.Common.{◌≡◌, Some, None, ◌∙◌, ap, sym, subst, map, slice_get}
+use Rattle.std.proofs.Common.{◌∙◌, ap, sym, subst, map, slice_get}
 use Rattle.uni_base.specs.Cursors.{IsRanked, keys_from}
 use Rattle.uni_base.specs.RankOrder.{doc_cmp}
 use Rattle.weak_strong.specs.declared.rule.Rule.{Rule}
@@ -22,5 +22,5 @@ returns-clause-walk g c =
     sought_end c.args.from (walk_of c.args.self.now.0 (map view c.loop-key.self.1) c.loop-key.self.2 c.loop-key.self.3)
     (keys_from c.args.from (walk_of c.args.self.now.0 (map view c.args.self.now.1) c.args.self.now.2 c.args.self.now.3))
     (ap (λ (r : Rule). slice_get (walk_of r (map view c.loop-key.self.1) c.loop-key.self.2 c.loop-key.self.3) 0) (sym c.loop-key.invariant.stays)
-      ∙ sym c.peek.ensures.first ∙ none_from c.peek.result c.in_default.not-Some)
+    ∙ sym c.peek.ensures.first ∙ none_from c.peek.result c.in_default.not-Some)
     c.loop-key.invariant.walk

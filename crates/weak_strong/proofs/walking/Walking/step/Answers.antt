@@ -1,14 +1,11 @@
-use Rattle.std.proofs.Common.{◌≡◌, ◌∙◌, List, ap, sym, subst, map, drop, arith, ◌+◌}
-use Rattle.uni_base.specs.declared.entity.DocKey.{DocKey}
-use Rattle.uni_base.specs.KeySets.{has_key, united, KeepsKeys}
-use Rattle.uni_base.proofs.UnitedLemmas.{KeepsKeys_trans}
+use Rattle.std.proofs.Common.{◌≡◌, ◌∙◌, List, sym, subst, map}
+use Rattle.uni_base.specs.KeySets.{united, KeepsKeys}
 use Rattle.std.proofs.lemmas.List.{length-map}
 use Rattle.weak_strong.specs.declared.rule.Counter.{Counter}
 use Rattle.weak_strong.specs.Marks.{counter_of}
-use Rattle.weak_strong.specs.Rules.{keeps_by, walkers}
 use Rattle.weak_strong.specs.Walking.{IsCounted, walk_of}
 use Rattle.weak_strong.proofs.Counting.{first_among}
-use Rattle.weak_strong.proofs.Settled.{owns_below, kept_on, walk_of-united}
+use Rattle.weak_strong.proofs.Settled.{owns_below}
 use Rattle.weak_strong.proofs.Whole.{counted_next, none_from, stepped_walk, stepped_operands, whole_end}
 use Rattle.weak_strong.proofs.walking.Walking.step.Goals as goal
 
@@ -24,8 +21,8 @@ settle-requires g c =
     let view = g.C.DocCursor.remaining in
     subst (λ (cs : List Counter). IsCounted (map view c.step.new.self) (map counter_of cs) c.next-kept.result) (sym c.as_slice.ensures.value)
     (counted_next (map view c.self.inside.candidates) (map view c.step.new.self) (map counter_of c.self.inside.counters.items) c.count.new.counters.items c.self.inside.kept c.next-kept.result c.in-Some.key
-      c.self.invariant.counted c.in-Some.ensures.first c.next-kept.ensures.value c.next-kept.ensures.rank c.next-kept.ensures.id c.step.ensures.after c.step.ensures.operands
-      (c.count.ensures.count ∙ sym (length-map c.self.inside.candidates view)) c.count.ensures.owns)
+    c.self.invariant.counted c.in-Some.ensures.first c.next-kept.ensures.value c.next-kept.ensures.rank c.next-kept.ensures.id c.step.ensures.after c.step.ensures.operands
+    (c.count.ensures.count ∙ sym (length-map c.self.inside.candidates view)) c.count.ensures.owns)
 
 pub returns-in_default-clause-walk : goal.returns-in_default-clause-walk
 returns-in_default-clause-walk g c =
@@ -38,9 +35,9 @@ returns-in-Some-clause-walk g c =
     c.self.view_is c.self.invariant.settled c.in-Some.key c.in-Some.ensures.first c.next-kept.ensures.value c.count.ensures.walked (map g.C.DocCursor.remaining c.step.new.self)
     (map g.C.DocCursor.remaining c.settle.new.candidates) c.step.ensures.after c.step.ensures.operands
     (subst (λ (cs : List Counter). walk_of c.self.inside.rule (map g.C.DocCursor.remaining c.settle.new.candidates) (map counter_of cs) c.next-kept.result
-        ≡ walk_of c.self.inside.rule (map g.C.DocCursor.remaining c.step.new.self) (map counter_of cs) c.next-kept.result) c.as_slice.ensures.value c.settle.ensures.walk)
+    ≡ walk_of c.self.inside.rule (map g.C.DocCursor.remaining c.step.new.self) (map counter_of cs) c.next-kept.result) c.as_slice.ensures.value c.settle.ensures.walk)
     (subst (λ (cs : List Counter). KeepsKeys (walk_of c.self.inside.rule (map g.C.DocCursor.remaining c.settle.new.candidates) (map counter_of cs) c.next-kept.result)
-        (map g.C.DocCursor.remaining c.step.new.self) (map g.C.DocCursor.remaining c.settle.new.candidates)) c.as_slice.ensures.value c.settle.ensures.operands)
+    (map g.C.DocCursor.remaining c.step.new.self) (map g.C.DocCursor.remaining c.settle.new.candidates)) c.as_slice.ensures.value c.settle.ensures.operands)
 
 pub returns-in-Some-clause-operands : goal.returns-in-Some-clause-operands
 returns-in-Some-clause-operands g c =
@@ -48,6 +45,6 @@ returns-in-Some-clause-operands g c =
     c.self.view_is c.self.invariant.settled c.in-Some.key c.in-Some.ensures.first c.next-kept.ensures.value c.count.ensures.walked (map g.C.DocCursor.remaining c.step.new.self)
     (map g.C.DocCursor.remaining c.settle.new.candidates) c.step.ensures.after c.step.ensures.operands
     (subst (λ (cs : List Counter). walk_of c.self.inside.rule (map g.C.DocCursor.remaining c.settle.new.candidates) (map counter_of cs) c.next-kept.result
-        ≡ walk_of c.self.inside.rule (map g.C.DocCursor.remaining c.step.new.self) (map counter_of cs) c.next-kept.result) c.as_slice.ensures.value c.settle.ensures.walk)
+    ≡ walk_of c.self.inside.rule (map g.C.DocCursor.remaining c.step.new.self) (map counter_of cs) c.next-kept.result) c.as_slice.ensures.value c.settle.ensures.walk)
     (subst (λ (cs : List Counter). KeepsKeys (walk_of c.self.inside.rule (map g.C.DocCursor.remaining c.settle.new.candidates) (map counter_of cs) c.next-kept.result)
-        (map g.C.DocCursor.remaining c.step.new.self) (map g.C.DocCursor.remaining c.settle.new.candidates)) c.as_slice.ensures.value c.settle.ensures.operands)
+    (map g.C.DocCursor.remaining c.step.new.self) (map g.C.DocCursor.remaining c.settle.new.candidates)) c.as_slice.ensures.value c.settle.ensures.operands)
