@@ -124,35 +124,54 @@ fn a_header_line_may_be_too_long(rt: HostRuntime) -> Result<(), Fail> {
     Ok(())
 }
 
+// A header with two verticals and four types.
+const PEOPLE: &[u8] =
+    b"unicorn 2|vertical user 2 2|vertical photo 1 1|type friend user user both index|type lives word user target index|type shows photo user source forward|type blocked user user source index|deny blocked|begin";
+
+fn people(alloc: Global) -> Result<Schema, Fail> {
+    Ok(open(alloc, PEOPLE)?.ok().ok_or("refused")?)
+}
+
 #[test]
-fn a_schema_has_what_its_lines_declare(rt: HostRuntime) -> Result<(), Fail> {
-    let text =
-        b"# people and photos|unicorn 2|vertical user 2 2|vertical photo 1 1||type friend user user both index|type lives word user target index|type shows photo user source forward|type blocked user user source index|deny blocked|begin";
-    let schema = open(rt.alloc(), text)?.ok().ok_or("refused")?;
-    assert_eq!(rt; schema.format(), 2);
+fn names_have_numbers(rt: HostRuntime) -> Result<(), Fail> {
+    let schema = people(rt.alloc())?;
     let photo = Word::read(b"photo").ok_or("no word")?;
     let shows = Word::read(b"shows").ok_or("no word")?;
+    assert_eq!(rt; schema.format(), 2);
     assert_eq!(rt; schema.vertical_no(&photo), Some(1));
     assert_eq!(rt; schema.vertical_no(&shows), None);
     assert_eq!(rt; schema.type_no(&shows), Some(2));
-    let verticals = schema.verticals();
+    Ok(())
+}
+
+#[test]
+fn types_are_as_their_lines_say(rt: HostRuntime) -> Result<(), Fail> {
+    let schema = people(rt.alloc())?;
     let types = schema.types();
-    assert!(rt; verticals == 2 && types == 4);
-    let type_def = schema.type_def(2);
-    assert!(rt; type_def.origin == Origin::Vertical(1) && type_def.target == 0);
-    assert!(rt; type_def.owner == Owner::Source && type_def.store == Store::Forward);
-    assert!(rt; !type_def.deny && schema.type_def(3).deny);
+    assert_eq!(rt; types, 4);
+    let shows = schema.type_def(2);
+    assert!(rt; shows.origin == Origin::Vertical(1) && shows.target == 0 && !shows.deny);
+    assert!(rt; shows.owner == Owner::Source && shows.store == Store::Forward);
+    assert!(rt; schema.type_def(3).deny);
+    Ok(())
+}
+
+#[test]
+fn edges_have_owners_and_shards(rt: HostRuntime) -> Result<(), Fail> {
+    let schema = people(rt.alloc())?;
+    let types = schema.types();
+    assert_eq!(rt; types, 4);
+    let verticals = schema.verticals();
+    assert_eq!(rt; verticals, 2);
     let five = EntityId::new(5).ok_or("no id")?;
-    assert!(rt; schema.shard_of(0, five) == 1 && schema.shard_of(1, five) == 0);
-    let rome = Word::read(b"rome").ok_or("no word")?;
-    assert_eq!(rt; schema.key_of(1, &rome), Some(Key::Word(rome)));
-    assert_eq!(rt; schema.key_of(0, &rome), None);
+    assert_eq!(rt; schema.shard_of(0, five), 1);
     let edge = EdgeRef {
         type_no: 0,
         key: Key::Id(five),
         target: five,
     };
     let owners = schema.owners(&edge);
-    assert!(rt; owners.first == Some(five) && owners.second == Some(five));
+    assert_eq!(rt; owners.first, Some(five));
+    assert_eq!(rt; owners.second, Some(five));
     Ok(())
 }
