@@ -1,0 +1,4 @@
+pub mod Order
+pub mod Sorted
+pub mod Spanned
+pub mod Laid

@@ -1,0 +1,12 @@
+//! The postings of a shard as a stack of layers: small layers of deletes and puts over a base, read
+//! as one table.
+#![tactic(auto)]
+
+mod delta;
+mod directory;
+mod layer;
+mod place;
+
+pub use delta::Delta;
+pub use layer::Layer;
+pub use place::{Place, TermKey};
