@@ -8,12 +8,8 @@ use Rattle.std.specs.Ordering.{is_eq, eq_by_cmp}
 use Rattle.std.specs.FinMap as map
 use Rattle.std.specs.FinMap.Entries.{find, is_sorted, same_entries}
 use Rattle.std.specs.Prelude.{T}
+use Rattle.layer_base.specs.Lookups.{either}
 use Rattle.layer_base.specs.Layers.{TellsApart, Changes, from_log, put_all, layer_over, stack_over, stack_table}
-
--- the first answer, or else the second
-abbrev pub either : {X : Type 0} → Option X → Option X → Option X
-either None other = other
-either (Some x) other = Some x
 
 module _ {K X : Type 0} {R : K → K → Ordering} (o : IsTotalOrder R) where
   pub get-put_all : (es : List (K × X)) (table : map.FinMap R X) (q : K) → map.get (put_all es table) q ≡ either (find R q es) (map.get table q)

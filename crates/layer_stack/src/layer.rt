@@ -2,9 +2,11 @@ ghost use Rattle.std.specs.Prelude.{◌≡◌, ◌≤◌, ◌+◌, ◌^◌, T, l
 ghost use Rattle.std.specs.FinMap as finite;
 ghost use Rattle.std.specs.FinMap.{is_sorted};
 ghost use Rattle.layer_stack.specs.Places.{place_cmp};
+ghost use Rattle.uni_base.specs.Cursors.{IsRanked};
+ghost use Rattle.layer_stack.specs.Spans.{spanned};
 ghost use Rattle.layer_stack.specs.Postings.{posting_of, key_of, postings_of, deletes_of, entries_of};
 
-use crate::directory::Directory;
+use crate::directory::{Directory, Span};
 use crate::{Delta, Place, TermKey};
 use layer_base::last_words;
 use posting_lists::{ListCursor, Posting, PostingColumns};
@@ -64,6 +66,34 @@ impl Layer {
     {
         self.postings.len() as u64 + self.deleted.len() as u64
     }
+
+    // The postings that it puts under a term.
+    pub(crate) fn postings(&self, term: &TermKey) -> ListCursor<'_>
+        ensures { result ≡ postings_of term.now self.now.puts }
+    {
+        match self.puts.span(term) {
+            Some(span) => self.postings.section(span.from, span.to),
+            None => self.postings.section(0, 0),
+        }
+    }
+
+    // The keys that it deletes under a term, in rank order.
+    pub(crate) fn deleted(&self, term: &TermKey) -> &[DocKey]
+        ensures deleted { result.now ≡ deletes_of term.now self.now }
+        ensures ranked { IsRanked result.now }
+    {
+        match self.deletes.span(term) {
+            Some(span) => part(&self.deleted, span),
+            None => &[],
+        }
+    }
+}
+
+fn part(keys: &[DocKey], span: Span) -> &[DocKey]
+    requires { (span.from ≤ span.to) × (span.to ≤ length keys.now) }
+    ensures { result.now ≡ spanned span keys.now }
+{
+    &keys[span.from..span.to]
 }
 
 // The postings of rows, in columns.

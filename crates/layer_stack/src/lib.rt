@@ -2,11 +2,17 @@
 //! as one table.
 #![tactic(auto)]
 
+mod cursor;
 mod delta;
 mod directory;
 mod layer;
+mod merge;
+mod part;
 mod place;
+mod stack;
 
+pub use cursor::StackCursor;
 pub use delta::Delta;
 pub use layer::Layer;
 pub use place::{Place, TermKey};
+pub use stack::Stack;
