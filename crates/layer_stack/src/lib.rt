@@ -10,6 +10,8 @@ mod merge;
 mod part;
 mod place;
 mod stack;
+#[cfg(test)]
+mod tests;
 
 pub use cursor::StackCursor;
 pub use delta::Delta;
