@@ -23,41 +23,37 @@ fn circle(owner: &Key) -> Audience {
     Audience::Circle(4, *owner)
 }
 
-// Each row is a layer: the lists of its records of entity 5 in turn, and what is then looked up.
+// A stack with one layer more, which replaces the record of an entity.
+fn replaced(
+    alloc: Global,
+    stack: &ForwardStack,
+    id: EntityId,
+    items: ForwardItems,
+) -> Result<ForwardStack, Fail> {
+    let mut delta = ForwardDelta::new(alloc);
+    delta.replace(2, id, items)?;
+    let layer = Arc::new(alloc, ForwardLayer::build(delta)?)?;
+    let mut next = stack.roomy(1)?;
+    next.push_reserved(layer);
+    Ok(next)
+}
+
 #[test]
 fn the_newest_record_counts(rt: HostRuntime) -> Result<(), Fail> {
     let owner = Key::Id(entity(3)?);
-    let base = ForwardLayer::build(ForwardDelta::new(rt.alloc()))?;
-    let mut stack = ForwardStack::of(rt.alloc(), Arc::new(rt.alloc(), base)?)?;
-    assert_eq!(rt; stack.lookup(2, entity(5)?).len(), 0);
-    let rows: [(&[u64], &[u64], usize, u64); 4] = [
-        (&[1, 2, 3], &[7, 9], 2, 7),
-        (&[4], &[8], 1, 8),
-        (&[4], &[], 0, 0),
-        (&[], &[6, 7, 8], 3, 6),
-    ];
-    for (first, second, len, head) in rows {
-        let mut delta = ForwardDelta::new(rt.alloc());
-        let five = entity(5)?;
-        let six = entity(6)?;
-        let once = items(rt.alloc(), &owner, first)?;
-        let other = items(rt.alloc(), &owner, &[1])?;
-        let again = items(rt.alloc(), &owner, second)?;
-        delta.replace(2, five, once)?;
-        delta.replace(2, six, other)?;
-        delta.replace(2, five, again)?;
-        let layer = ForwardLayer::build(delta)?;
-        assert_eq!(rt; layer.entries(), 2);
-        let shared = Arc::new(rt.alloc(), layer)?;
-        let mut next = stack.roomy(1)?;
-        next.push_reserved(shared);
-        stack = next;
-        let found = stack.lookup(2, entity(5)?);
-        assert_eq!(rt; found.len(), len);
-        if let Some(item) = found.first() {
-            assert_eq!(rt; item.target.get(), head);
-        }
-        assert_eq!(rt; stack.lookup(3, entity(5)?).len(), 0);
-    }
+    let id = entity(5)?;
+    let base = Arc::new(rt.alloc(), ForwardLayer::build(ForwardDelta::new(rt.alloc()))?)?;
+    let empty = ForwardStack::of(rt.alloc(), base)?;
+    let first = items(rt.alloc(), &owner, &[1, 2, 3])?;
+    let second = items(rt.alloc(), &owner, &[7])?;
+    let none = items(rt.alloc(), &owner, &[])?;
+    let one = replaced(rt.alloc(), &empty, id, first)?;
+    let two = replaced(rt.alloc(), &one, id, second)?;
+    let three = replaced(rt.alloc(), &two, id, none)?;
+    assert_eq!(rt; empty.lookup(2, id).len(), 0);
+    assert_eq!(rt; one.lookup(2, id).len(), 3);
+    assert_eq!(rt; two.lookup(2, id).len(), 1);
+    assert_eq!(rt; three.lookup(2, id).len(), 0);
+    assert_eq!(rt; two.lookup(3, id).len(), 0);
     Ok(())
 }
