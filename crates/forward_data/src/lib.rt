@@ -1,0 +1,13 @@
+//! Forward records: the edges of a type that start at an entity, kept with that entity, as a stack
+//! of layers of which the newest record counts.
+#![tactic(auto)]
+
+mod layer;
+mod record;
+mod stack;
+#[cfg(test)]
+mod tests;
+
+pub use layer::{ForwardDelta, ForwardLayer};
+pub use record::{ForwardItem, ForwardItems, RecordKey};
+pub use stack::ForwardStack;

@@ -1,0 +1,83 @@
+ghost use Rattle.std.specs.Prelude.{◌≡◌, ◌+◌, ◌≤◌, ◌<◌, ◌++◌, ◌∷◌, [], length, Some, IfOk};
+ghost use Rattle.std.specs.List.{slice_get};
+ghost use Rattle.forward_data.specs.Records.{record_key, record_of};
+
+use crate::{ForwardItem, ForwardLayer, RecordKey};
+use layer_base::SharedLayers;
+use std::alloc::{AllocError, Global};
+use std::marker::Model;
+use std::sync::Arc;
+use uni_base::EntityId;
+
+/// Layers of records, the oldest first, which other stacks may share. Contracts see the layers,
+/// and how many more it has room for.
+#[derive(Drop)]
+pub struct ForwardStack {
+    layers: SharedLayers<ForwardLayer>,
+}
+
+impl Model for ForwardStack {
+    ghost use Rattle.std.specs.Prelude.{List, ℕ};
+    ghost use Rattle.forward_data.specs.Records.{Records};
+
+    ghost Value = { List Records × ℕ };
+
+    ghost view = { λ s. s.layers };
+}
+
+impl ForwardStack {
+    /// A stack of one layer.
+    pub fn of(alloc: Global, base: Arc<ForwardLayer>) -> Result<ForwardStack, AllocError>
+        ensures { IfOk result (λ stack. stack.0 ≡ base.value ∷ []) }
+    {
+        let layers = SharedLayers::of(alloc, base)?;
+        Ok(ForwardStack { layers })
+    }
+
+    /// How many layers it has.
+    pub fn layers(&self) -> usize
+        ensures { result ≡ length self.now.0 }
+    {
+        self.layers.layers()
+    }
+
+    /// The layer at a place, the oldest being 0.
+    pub fn layer(&self, i: usize) -> &Arc<ForwardLayer>
+        requires { i < length self.now.0 }
+        ensures { slice_get self.now.0 i ≡ Some result.now.value }
+    {
+        self.layers.layer(i)
+    }
+
+    /// An equal stack with room for at least so many layers more.
+    pub fn roomy(&self, extra: usize) -> Result<ForwardStack, AllocError>
+        ensures layers { IfOk result (λ stack. stack.0 ≡ self.now.0) }
+        ensures room { IfOk result (λ stack. extra ≤ stack.1) }
+    {
+        let layers = self.layers.roomy(extra)?;
+        Ok(ForwardStack { layers })
+    }
+
+    /// Adds a layer above all others, for which there is room.
+    pub fn push_reserved(&mut self, layer: Arc<ForwardLayer>)
+        requires { 0 < self.old.1 }
+        ensures layers { self.new.0 ≡ self.old.0 ++ layer.value ∷ [] }
+        ensures room { self.new.1 + 1 ≡ self.old.1 }
+    {
+        self.layers.push_reserved(layer);
+    }
+
+    /// The newest record, empty where there is none.
+    pub fn lookup(&self, type_no: u16, id: EntityId) -> &[ForwardItem]
+        ensures { result.now ≡ record_of (record_key type_no id) self.now.0 }
+    {
+        let key = RecordKey { type_no, id };
+        let mut newest: &[ForwardItem] = &[];
+        for i in 0..self.layers() {
+            if let Some(items) = self.layer(i).record(&key) {
+                newest = items.as_slice();
+            }
+        }
+        newest
+    }
+}

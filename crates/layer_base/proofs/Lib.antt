@@ -1,0 +1,3 @@
+pub mod Frozen
+pub mod LastWords
+pub mod Tables

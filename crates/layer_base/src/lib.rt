@@ -1,0 +1,12 @@
+//! What all stacks of layers have in common: a log of changes of which the last word on each key
+//! counts, and a stack that shares its layers with other stacks.
+#![tactic(auto)]
+
+mod blocks;
+mod log;
+mod shared;
+#[cfg(test)]
+mod tests;
+
+pub use log::last_words;
+pub use shared::SharedLayers;

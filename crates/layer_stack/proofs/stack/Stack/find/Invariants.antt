@@ -1,0 +1,8 @@
+use Rattle.std.proofs.Common.{◌≡◌, take}
+use Rattle.std.specs.FinMap as finite
+use Rattle.layer_base.specs.Layers.{stack_table}
+use Rattle.layer_stack.specs.Postings.{place_of}
+use Rattle.layer_stack.proofs.stack.Stack.find.Given as goal
+
+abbrev pub invariant-loop-i : goal.invariant-loop-i
+invariant-loop-i l = l.answer ≡ finite.get (stack_table (take l.i l.self.0)) (place_of l.term l.key)

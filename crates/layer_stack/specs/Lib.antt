@@ -1,0 +1,4 @@
+pub mod Places
+pub mod Postings
+pub mod Spans
+pub mod Stacks

@@ -1,0 +1,48 @@
+-- Where the rows of each term stand among rows in the order of places.
+use Rattle.std.specs.Prelude.{◌≡◌, ◌≤◌, ◌^◌, ℕ, List, length, map, All, Option, T}
+use Rattle.std.specs.List.{flat_map}
+use Rattle.std.specs.FinMap.{is_sorted, find}
+use Rattle.posting_lists.specs.Postings.{section}
+use Rattle.uni_base.specs.declared.edge.Audience.{Audience}
+use Rattle.uni_base.specs.declared.entity.DocKey.{DocKey}
+use Rattle.posting_lists.specs.declared.posting.Posting.{Posting}
+use Rattle.layer_stack.specs.declared.directory.Span.{Span}
+use Rattle.layer_stack.specs.declared.place.Place.{Place}
+use Rattle.layer_stack.specs.declared.place.TermKey.{TermKey}
+use Rattle.layer_stack.specs.Places.{term_cmp, place_cmp}
+use Rattle.layer_stack.specs.Postings.{place_of}
+
+-- the part of rows that a span tells
+abbrev pub spanned : {X : Type 0} → Span → List X → List X
+spanned span = section span.from span.to
+
+-- the rows of all spans, each made by its term
+abbrev pub tagged : {X Y : Type 0} → (TermKey → X → Y) → List (TermKey × Span) → List X → List Y
+tagged tag spans xs = flat_map (λ e. map (tag e.0) (spanned e.1 xs)) spans
+
+-- rows with their places made anew by the terms of the spans that they stand in
+abbrev pub retagged : {V : Type 0} → List (TermKey × Span) → List (Place × V) → List (Place × V)
+retagged = tagged (λ term row. (place_of term row.0.key, row.1))
+
+-- spans within so many rows, their terms in order
+pub record IsSpans (rows : ℕ) (spans : List (TermKey × Span)) : Type 0 where
+  pub sorted : T (is_sorted term_cmp spans)
+  pub within : All (λ e. (e.1.from ≤ e.1.to) × (e.1.to ≤ rows)) spans
+
+-- the span of a term, if it has one
+abbrev pub span_of : TermKey → List (TermKey × Span) → Option Span
+span_of = find term_cmp
+
+-- the rows of postings and of deleted keys
+abbrev pub put_rows : List (TermKey × Span) → List Posting → List (Place × Audience)
+put_rows = tagged (λ term p. (place_of term p.key, p.audience))
+
+abbrev pub delete_rows : List (TermKey × Span) → List DocKey → List (Place × Unit {0})
+delete_rows = tagged (λ term k. (place_of term k, tt))
+
+-- rows in the order of places, told by spans over as many items
+pub record AreLaid {V : Type 0} (rows : List (Place × V)) (spans : List (TermKey × Span)) (items : ℕ) : Type 0 where
+  pub sorted : T (is_sorted place_cmp rows)
+  pub told : IsSpans items spans
+  pub count : length rows ≡ items
+  pub few : items ≤ 2 ^ 61

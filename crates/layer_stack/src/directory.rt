@@ -1,0 +1,78 @@
+ghost use Rattle.std.specs.Prelude.{◌≡◌, IfOk, OnOk, length};
+ghost use Rattle.std.specs.Prelude.{T};
+ghost use Rattle.std.specs.BTreeMap.{insert_entry};
+ghost use Rattle.std.specs.FinMap.{is_sorted};
+ghost use Rattle.std.specs.Ordering.{eq_by_cmp};
+ghost use Rattle.layer_stack.specs.Places.{place_cmp, term_cmp, term_of};
+ghost use Rattle.layer_stack.specs.Spans.{retagged, IsSpans, span_of};
+
+use crate::{Place, TermKey};
+use std::alloc::{AllocError, Global};
+use std::collections::BTreeMap;
+use std::marker::Model;
+use uni_base::Key;
+
+/// Where the rows of a term stand: from a place up to another.
+#[derive(Clone, Copy)]
+pub(crate) struct Span {
+    pub(crate) from: usize,
+    pub(crate) to: usize,
+}
+
+/// Where the rows of each term stand among rows in the order of places.
+#[derive(Drop)]
+pub(crate) struct Directory {
+    spans: BTreeMap<TermKey, Span>,
+}
+
+impl Model for Directory {
+    ghost use Rattle.std.specs.Prelude.{List};
+    ghost use Rattle.layer_stack.specs.declared.place.TermKey.{TermKey};
+    ghost use Rattle.layer_stack.specs.declared.directory.Span.{Span};
+
+    ghost Value = { List (TermKey × Span) };
+
+    ghost view = { λ d. d.spans.entries };
+}
+
+impl Directory {
+    // The directory of rows that stand in the order of places.
+    pub(crate) fn of<V>(alloc: Global, rows: &[(Place, V)]) -> Result<Directory, AllocError>
+        requires { T (is_sorted place_cmp rows.now) }
+        ensures rows { IfOk result (λ d. retagged d rows.now ≡ rows.now) }
+        ensures spans { IfOk result (IsSpans (length rows.now)) }
+    {
+        let mut directory = Directory {
+            spans: BTreeMap::new(alloc),
+        };
+        let mut from = 0;
+        for i in 0..rows.len() {
+            let term = rows[i].0.term;
+            if i + 1 == rows.len() || !is_same(&rows[i + 1].0.term, &term) {
+                directory.note(term.type_no, term.key, Span { from, to: i + 1 })?;
+                from = i + 1;
+            }
+        }
+        Ok(directory)
+    }
+
+    fn note(&mut self, type_no: u16, key: Key, span: Span) -> Result<(), AllocError>
+        ensures { OnOk result (self.new ≡ insert_entry term_cmp self.old (term_of type_no key) span) }
+    {
+        self.spans.insert(TermKey { type_no, key }, span)?;
+        Ok(())
+    }
+
+    // Where the rows of a term stand. None exactly where it has none.
+    pub(crate) fn span(&self, term: &TermKey) -> Option<Span>
+        ensures { result ≡ span_of term.now self.now }
+    {
+        self.spans.get(term).copied()
+    }
+}
+
+fn is_same(term: &TermKey, other: &TermKey) -> bool
+    ensures { result ≡ eq_by_cmp term_cmp term.now other.now }
+{
+    term == other
+}

@@ -1,0 +1,20 @@
+//! The postings of a shard as a stack of layers: small layers of deletes and puts over a base, read
+//! as one table.
+#![tactic(auto)]
+
+mod cursor;
+mod delta;
+mod directory;
+mod layer;
+mod merge;
+mod part;
+mod place;
+mod stack;
+#[cfg(test)]
+mod tests;
+
+pub use cursor::StackCursor;
+pub use delta::Delta;
+pub use layer::Layer;
+pub use place::{Place, TermKey};
+pub use stack::Stack;

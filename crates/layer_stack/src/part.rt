@@ -1,0 +1,119 @@
+ghost use Rattle.std.specs.Prelude.{◌≡◌, ◌==◌, ◌&&◌, length, cond, None, not, map};
+ghost use Rattle.uni_base.specs.Cursors.{IsRanked, is_before, is_less};
+ghost use Rattle.uni_base.specs.RankOrder.{doc_cmp};
+ghost use Rattle.uni_base.specs.KeySets.{has_key};
+ghost use Rattle.std.specs.FinMap.{find};
+ghost use Rattle.std.specs.Ordering.{is_eq};
+ghost use Rattle.posting_lists.specs.Postings.{keys_of};
+ghost use Rattle.layer_base.specs.Lookups.{either};
+ghost use Rattle.layer_stack.specs.Stacks.{StandsFrom, part_where, stands_at, entry_of, head_of, lesser};
+
+use posting_lists::ListCursor;
+use std::marker::Model;
+use uni_base::{Audience, DocCursor, DocKey};
+
+/// What one layer has under a term: the keys that it deletes, and the postings that it puts.
+#[derive(Drop)]
+pub(crate) struct Part<'a> {
+    deletes: &'a [DocKey],
+    puts: ListCursor<'a>,
+}
+
+impl<'a> Model for Part<'a> {
+    ghost use Rattle.uni_base.specs.Cursors.{IsRanked};
+    ghost use Rattle.layer_stack.specs.Stacks.{PartValue};
+
+    ghost Value = { PartValue };
+
+    ghost view = { λ p. (p.deletes.now, p.puts) };
+
+    ghost invariant = { λ p. IsRanked p.deletes.now };
+}
+
+impl<'a> Part<'a> {
+    pub(crate) fn new(deletes: &'a [DocKey], puts: ListCursor<'a>) -> Part<'a>
+        requires { IsRanked deletes.now }
+        ensures { result ≡ (deletes.now, puts.entry) }
+    {
+        Part { deletes, puts }
+    }
+
+    pub(crate) fn is_empty(&self) -> bool
+        ensures { result ≡ ((length self.now.0 == 0) && (length self.now.1 == 0)) }
+    {
+        self.deletes.is_empty() && self.puts.peek().is_none()
+    }
+
+    // The key of the first posting.
+    pub(crate) fn head(&self) -> Option<DocKey>
+        ensures head { result ≡ head_of self.now }
+        ensures ranked { IsRanked (keys_of self.now.1) }
+    {
+        self.puts.peek()
+    }
+
+    // The answer at a key, given that of the older layers.
+    pub(crate) fn over(&self, older: Option<Audience>, key: &DocKey) -> Option<Audience>
+        requires { StandsFrom key.now self.now }
+        ensures { result ≡ either (find doc_cmp key.now (map entry_of self.now.1)) (cond (has_key self.now.0 key.now) None older) }
+    {
+        if self.stands_at(key) {
+            self.puts.audience()
+        } else if holds(self.deletes, key) {
+            None
+        } else {
+            older
+        }
+    }
+
+    // Passes the posting at the least key.
+    pub(crate) fn pass(&mut self, key: &DocKey)
+        requires { StandsFrom key.now self.old }
+        ensures { self.new ≡ part_where (is_before key.now) self.old }
+    {
+        if self.stands_at(key) {
+            self.puts.step();
+        }
+    }
+
+    fn stands_at(&self, key: &DocKey) -> bool
+        ensures at { result ≡ stands_at key.now self.now.1 }
+        ensures ranked { IsRanked (keys_of self.now.1) }
+    {
+        match self.puts.peek() {
+            Some(head) => is_same(&head, key),
+            None => false,
+        }
+    }
+
+    // Passes the postings before a key.
+    pub(crate) fn seek(&mut self, from: DocKey)
+        ensures { self.new ≡ part_where (λ k. not (is_before k from)) self.old }
+    {
+        self.puts.seek(from);
+    }
+}
+
+// Whether keys have a key.
+fn holds(keys: &[DocKey], key: &DocKey) -> bool
+    ensures { result ≡ has_key keys.now key.now }
+{
+    keys.iter().any(|other| is_same(other, key))
+}
+
+fn is_same(key: &DocKey, other: &DocKey) -> bool
+    ensures { result ≡ is_eq (doc_cmp key.now other.now) }
+{
+    key == other
+}
+
+// The lesser of two keys that may be missing.
+pub(crate) fn lesser(least: Option<DocKey>, head: Option<DocKey>) -> Option<DocKey>
+    ensures { result ≡ lesser least head }
+{
+    match (least, head) {
+        (None, head) => head,
+        (least, None) => least,
+        (Some(least), Some(head)) => Some(if least < head { least } else { head }),
+    }
+}

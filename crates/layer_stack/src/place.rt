@@ -1,0 +1,33 @@
+ghost use Rattle.std.specs.Prelude.{◌≡◌};
+ghost use Rattle.layer_stack.specs.Postings.{place_of};
+ghost use Rattle.layer_stack.specs.Places.{term_of};
+
+use uni_base::{DocKey, Key};
+
+/// A term: the type of an edge and where it starts. Terms are in the order of their types, then of
+/// their keys, ids before words.
+#[derive(Clone, Copy, Debug, PartialEq, Eq, PartialOrd, Ord)]
+pub struct TermKey {
+    pub type_no: u16,
+    pub key: Key,
+}
+
+/// The place of a posting in a table: its term, and then its key in rank order.
+#[derive(Clone, Copy, Debug, PartialEq, Eq, PartialOrd, Ord)]
+pub struct Place {
+    pub term: TermKey,
+    pub key: DocKey,
+}
+
+impl Place {
+    // The place of a key under the term of a type and a start.
+    pub(crate) fn at(type_no: u16, start: Key, key: DocKey) -> Place
+        ensures { result ≡ place_of (term_of type_no start) key }
+    {
+        let term = TermKey {
+            type_no,
+            key: start,
+        };
+        Place { term, key }
+    }
+}

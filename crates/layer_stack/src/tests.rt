@@ -1,0 +1,119 @@
+ghost use Rattle.std.specs.Prelude.{◌<◌};
+
+use crate::{Delta, Layer, Stack, TermKey};
+use posting_lists::Posting;
+use std::alloc::Global;
+use std::sync::Arc;
+use std::test::Fail;
+use uni_base::{Audience, DocCursor, DocKey, EntityId, Key, Rank};
+
+/// How many places there are: two terms with eight keys each.
+const PLACES: usize = 16;
+
+// Numbers in no order, the same at each run.
+#[derive(Drop)]
+struct Noise {
+    state: u64,
+}
+
+impl Noise {
+    fn below(&mut self, n: u64) -> u64
+        requires { 0 < n }
+        ensures { result < n }
+    {
+        self.state = self
+            .state
+            .wrapping_mul(6_364_136_223_846_793_005)
+            .wrapping_add(1_442_695_040_888_963_407);
+        (self.state >> 33) % n
+    }
+}
+
+fn entity(n: u64) -> Result<EntityId, Fail> {
+    EntityId::new(n).ok_or_else(|| Fail::new("no entity has the number 0"))
+}
+
+fn term(n: u64) -> Result<TermKey, Fail> {
+    Ok(TermKey {
+        type_no: 3,
+        key: Key::Id(entity(n.saturating_add(1))?),
+    })
+}
+
+fn key(n: u64) -> Result<DocKey, Fail> {
+    Ok(DocKey {
+        rank: Rank(7),
+        id: entity(n.saturating_add(1))?,
+    })
+}
+
+fn audience(turn: u64) -> Audience {
+    if turn == 0 {
+        Audience::Public
+    } else {
+        Audience::Only
+    }
+}
+
+// A layer of some deletes and puts; `want` is changed as the layer changes a table.
+fn noisy_layer(
+    alloc: Global,
+    noise: &mut Noise,
+    want: &mut [Option<Audience>; PLACES],
+) -> Result<Layer, Fail> {
+    let mut delta = Delta::new(alloc);
+    let mut puts = [None; PLACES];
+    for _ in 0..noise.below(12) {
+        let place = noise.below(16);
+        let term = term(place / 8)?;
+        let key = key(place % 8)?;
+        if noise.below(2) == 0 {
+            delta.delete(term, key)?;
+            want[place as usize] = None;
+        } else {
+            let audience = audience(noise.below(2));
+            delta.put(term, Posting { key, audience })?;
+            puts[place as usize] = Some(audience);
+        }
+    }
+    for place in 0..PLACES {
+        if let Some(audience) = puts[place] {
+            want[place] = Some(audience);
+        }
+    }
+    Ok(Layer::build(alloc, delta)?)
+}
+
+// Stacks of 1 to 9 layers are read like the table that a plain fold over their changes makes.
+#[test]
+fn stacks_are_read_like_a_table(rt: HostRuntime) -> Result<(), Fail> {
+    for case in 0..300u64 {
+        let mut noise = Noise { state: case };
+        let mut want = [None; PLACES];
+        let base = noisy_layer(rt.alloc(), &mut noise, &mut want)?;
+        let mut stack = Stack::of(rt.alloc(), Arc::new(rt.alloc(), base)?)?;
+        for _ in 0..noise.below(9) {
+            let layer = noisy_layer(rt.alloc(), &mut noise, &mut want)?;
+            let shared = Arc::new(rt.alloc(), layer)?;
+            let mut next = stack.roomy(1)?;
+            next.push_reserved(shared);
+            stack = next;
+        }
+        for t in 0..2u64 {
+            let term = term(t)?;
+            let mut cursor = stack.cursor(rt.alloc(), &term)?;
+            for k in 0..8u64 {
+                let key = key(k)?;
+                let expected = want[(8 * t + k) as usize];
+                assert_eq!(rt; stack.find(&term, key), expected, "case {case} at {t} {k}");
+                if expected.is_some() {
+                    assert_eq!(rt; cursor.peek(), Some(key), "case {case} at {t} {k}");
+                    assert_eq!(rt; cursor.audience(), expected, "case {case} at {t} {k}");
+                    cursor.step();
+                }
+            }
+            assert_eq!(rt; cursor.peek(), None, "case {case} at {t}");
+        }
+    }
+    Ok(())
+}

@@ -1,0 +1,3 @@
+pub mod Audiences
+pub mod Search
+pub mod Postings

@@ -1,0 +1,117 @@
+ghost use Rattle.std.specs.Prelude.{◌≡◌, ◌≤◌, ◌<◌, ◌+◌, ◌-◌, ◌*◌, ◌++◌, ◌∷◌, ◌==◌, [], length, take, drop, OnOk, OnErr, Some, slice_get};
+ghost use Rattle.posting_lists.specs.Postings.{keys_of, section};
+ghost use Rattle.posting_lists.specs.Search.{RisesWithin, IsFirstFrom, most_comparisons};
+ghost use Rattle.uni_base.specs.Cursors.{IsRanked};
+
+use crate::audiences::AudienceColumn;
+use crate::search::{BLOCK, place_from};
+use crate::{ListCursor, Posting};
+use std::alloc::{AllocError, Global};
+use std::marker::Model;
+use std::sync::ledger::Ledger;
+use uni_base::{DocKey, Steps};
+
+/// Postings in columns: keys, the last key of each whole block of keys, and audiences. Lists of
+/// postings lie in it one after another; each is a section from one place to another.
+#[derive(Drop)]
+pub struct PostingColumns {
+    keys: Vec<DocKey>,
+    lasts: Vec<DocKey>,
+    audiences: AudienceColumn,
+}
+
+impl Model for PostingColumns {
+    ghost use Rattle.std.specs.Prelude.{◌≡◌, List, length};
+    ghost use Rattle.posting_lists.specs.declared.posting.Posting.{Posting};
+    ghost use Rattle.posting_lists.specs.Postings.{joined};
+    ghost use Rattle.posting_lists.specs.Search.{HasLasts};
+
+    ghost Value = { List Posting };
+
+    ghost view = { λ c. joined c.keys.items c.audiences };
+
+    ghost invariant = { λ c. (length c.audiences ≡ length c.keys.items) × HasLasts c.keys.items c.lasts.items };
+}
+
+impl PostingColumns {
+    /// No postings.
+    pub fn new(alloc: Global) -> PostingColumns
+        ensures { result ≡ [] }
+    {
+        PostingColumns {
+            keys: Vec::new(alloc),
+            lasts: Vec::new(alloc),
+            audiences: AudienceColumn::new(alloc),
+        }
+    }
+
+    pub fn len(&self) -> usize
+        ensures { result ≡ length self.now }
+    {
+        self.keys.len()
+    }
+
+    pub fn is_empty(&self) -> bool
+        ensures { result ≡ (length self.now == 0) }
+    {
+        self.keys.is_empty()
+    }
+
+    /// Adds a posting at the end. Columns that find no memory stay as they were.
+    pub fn push(&mut self, posting: Posting) -> Result<(), AllocError>
+        ensures ok { OnOk result (self.new ≡ self.old ++ posting ∷ []) }
+        ensures err { OnErr result (self.new ≡ self.old) }
+    {
+        self.keys.reserve(1)?;
+        self.lasts.reserve(1)?;
+        self.audiences.push(posting.audience)?;
+        self.keys.push(posting.key)?;
+        if self.keys.len() % BLOCK == 0 {
+            self.lasts.push(posting.key)?;
+        }
+        Ok(())
+    }
+
+    /// The list from one place to another.
+    pub fn section(&self, from: usize, to: usize) -> ListCursor<'_>
+        requires within { (from ≤ to) × (to ≤ length self.now) }
+        requires ranked { IsRanked (keys_of (section from to self.now)) }
+        ensures { result ≡ section from to self.now }
+    {
+        ListCursor::over(self, from, to)
+    }
+
+    pub(crate) fn key(&self, i: usize) -> DocKey
+        requires { i < length self.now }
+        ensures { slice_get (keys_of self.now) i ≡ Some result }
+    {
+        self.keys[i]
+    }
+
+    /// The posting at a place, counted from 0.
+    pub fn posting(&self, i: usize) -> Posting
+        requires { i < length self.now }
+        ensures { slice_get self.now i ≡ Some result }
+    {
+        Posting {
+            key: self.keys[i],
+            audience: self.audiences.get(i),
+        }
+    }
+
+    // The first place of a section whose key does not come before a given one.
+    pub(crate) fn place_from<L: Ledger>(
+        &self,
+        at: usize,
+        end: usize,
+        from: &DocKey,
+        steps: &mut Steps<L>,
+    ) -> usize
+        requires within { (at ≤ end) × (end ≤ length self.now) }
+        requires rises { RisesWithin (keys_of self.now) at end }
+        ensures found { IsFirstFrom from.now (keys_of self.now) at end result }
+        ensures counted { steps.new ≤ steps.old + most_comparisons (result - at) }
+    {
+        place_from(&self.keys, &self.lasts, at, end, from, steps)
+    }
+}
