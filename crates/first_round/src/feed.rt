@@ -13,12 +13,12 @@ use crate::item::{Item, RoundLine, TermQuery};
 use crate::print::{push_not_yet, push_published, push_refused, push_reply};
 use crate::refusal::PublishRefusal;
 use crate::show::{push_hits, visible};
+use first_schema::Schema;
+use first_table::{Command, Table};
 use std::alloc::{AllocError, Global};
 use std::marker::Model;
 use std::sync::Arc;
 use uni_base::{EntityId, Limits};
-use first_schema::Schema;
-use first_table::{Command, Table};
 
 /// Answers lines in order. What is pending stays apart from the last version, and a publish takes
 /// the pending commands into it one by one, so that neither table is ever copied.

@@ -2,8 +2,8 @@ ghost use Rattle.std.specs.Prelude.{◌≡◌, ◌<◌, ◌≤◌, ◌+◌, ◌^
 ghost use Rattle.first_round.specs.LineItems.{is_end};
 ghost use Rattle.first_round.specs.Rounds.{counted_after};
 
-use uni_base::EntityId;
 use first_table::Command;
+use uni_base::EntityId;
 
 /// A query for the targets of the edges of a type from an entity.
 #[derive(Clone, Copy, Debug, PartialEq, Eq)]

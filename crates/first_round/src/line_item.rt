@@ -9,8 +9,8 @@ ghost use Rattle.first_round.specs.Stops.{Stops};
 use crate::item::RoundLine;
 use crate::lines::{LineReader, ScriptRefusal};
 use crate::read_item::read_line;
-use uni_base::{Limits, Source};
 use first_schema::Schema;
+use uni_base::{Limits, Source};
 
 /// Takes the next line of a round, which has this number, and before which so many count. None at the
 /// end of the input.

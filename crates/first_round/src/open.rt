@@ -4,9 +4,9 @@ ghost use Rattle.first_round.specs.Opened.{Opened, OpenRefused};
 ghost use Rattle.first_round.specs.Reading.{EndFits};
 
 use crate::lines::{LineReader, ScriptRefusal};
+use first_schema::{HeaderReader, Schema, SchemaRefusal};
 use std::alloc::Global;
 use uni_base::{Limits, Source};
-use first_schema::{HeaderReader, Schema, SchemaRefusal};
 
 /// Why a script was not opened.
 #[derive(Clone, Copy, Debug, PartialEq, Eq)]

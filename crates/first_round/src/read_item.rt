@@ -5,9 +5,9 @@ ghost use Rattle.uni_base.specs.StandardLimits.{IsWithinStandard};
 ghost use Rattle.first_round.specs.Items.{vertical_named, type_named, entity_line, edge_line, query_text, ask_line, item_with, item_of, is_skipped, counted_item, LineIs};
 
 use crate::item::{Item, RoundLine, TermQuery};
-use uni_base::{EntityId, Limits, Rank, Word, cut_at, read_between, read_id};
 use first_schema::Schema;
 use first_table::{AudienceText, Command};
+use uni_base::{EntityId, Limits, Rank, Word, cut_at, read_between, read_id};
 
 /// What a line of a round is, before which so many of its round count.
 #[tactic(auto, unfolding(crate::specs::Items::line_of))]

@@ -17,11 +17,11 @@ use crate::print::{push_not_yet, push_schema};
 use crate::round::answer_round;
 use crate::status::Status;
 use crate::write::write_all;
+use first_schema::{Schema, SchemaRefusal};
 use std::alloc::Global;
 use std::sync::{Arc, Wait};
 use std::thread::Threads;
 use uni_base::{Limits, Sink, Source};
-use first_schema::{Schema, SchemaRefusal};
 
 /// Answers the rounds of a script whose header was read, each written in one piece before the next
 /// one is read. The first line after the header has this number.

@@ -7,10 +7,10 @@ ghost use Rattle.first_round.specs.Queries.{admits, authorised, is_owner, shown_
 
 use crate::item::TermQuery;
 use crate::print::push_number;
-use std::alloc::{AllocError, Global};
-use uni_base::{Audience, EdgeRef, EntityId, Held, Key};
 use first_schema::Schema;
 use first_table::Table;
+use std::alloc::{AllocError, Global};
+use uni_base::{Audience, EdgeRef, EntityId, Held, Key};
 
 // The first items of a list, at most so many.
 fn first_of(held: &[Held], limit: usize) -> &[Held]

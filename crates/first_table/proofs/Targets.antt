@@ -21,7 +21,6 @@ use Rattle.uni_base.specs.declared.limits.Limits.{Limits}
 use Rattle.first_table.specs.declared.refusal.FeedRefusal.TheVariants.{NoSource, NoTarget, Elsewhere, TableFull}
 use Rattle.first_table.specs.Commands.{refuses_entity, refuses_edge}
 use Rattle.first_table.proofs.Compared.{same_number}
-
 use Rattle.first_table.specs.Contents.{Contents, entity_at, is_in, has_edge, source_stands, key_stands, target_stands}
 
 -- a test of keys holds of the entries with one more

@@ -3,12 +3,12 @@ ghost use Rattle.std.specs.Arc.{arc_value};
 ghost use Rattle.first_table.specs.Commands.{audience_of};
 
 use crate::{AudienceText, Command, EntityRow, FeedRefusal};
+use first_schema::{Origin, Schema, TypeDef};
 use std::alloc::Global;
 use std::collections::BTreeMap;
 use std::marker::Model;
 use std::sync::Arc;
 use uni_base::{Audience, EdgeRef, EntityId, Key, Limits, Rank, Word};
-use first_schema::{Origin, Schema, TypeDef};
 
 mod reached;
 

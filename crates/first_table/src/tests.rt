@@ -2,12 +2,12 @@ ghost use Rattle.std.specs.Prelude.{◌≡◌, ◌<◌, true, length, IfOk};
 ghost use Rattle.uni_base.specs.Words.{is_word};
 
 use crate::{AudienceText, Command, FeedRefusal, Table};
+use first_schema::HeaderReader;
 use std::alloc::{AllocError, Global};
 use std::process::Abort;
 use std::sync::Arc;
 use std::test::Fail;
 use uni_base::{Audience, EdgeRef, EntityId, Key, Limits, Rank, Word};
-use first_schema::HeaderReader;
 
 // A table of one vertical and one type of edges in it.
 fn friends(rt: &impl Abort, alloc: Global, limits: Limits) -> Result<Table, Fail>

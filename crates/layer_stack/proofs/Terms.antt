@@ -89,7 +89,7 @@ module _ {V : Type 0} (t : TermKey) where
       elim (is_under t d) as (λ b. is_under t d ≡ b → T (below_all doc_cmp e.0.key (map keyed (cond b (d ∷ filter (is_under t) es) (filter (is_under t) es))))) [
         | true ↦ λ v.
             let same : is_eq (term_cmp e.0.term d.0.term) ≡ true =
-                ap is_eq (sym (term_total.congr t e.0.term d.0.term (equal_from (term_cmp t e.0.term) u))) ∙ v in
+            ap is_eq (sym (term_total.congr t e.0.term d.0.term (equal_from (term_cmp t e.0.term) u))) ∙ v in
             both _ _ (then_lt (term_cmp e.0.term d.0.term) (doc_cmp e.0.key d.0.key) same (first _ _ below)) (below_keyed e es u (second _ _ below))
         | false ↦ λ v. below_keyed e es u (second _ _ below)
       ] refl

@@ -23,7 +23,6 @@ impl Model for Delta {
     ghost use Rattle.std.specs.Prelude.{◌≤◌, ◌^◌, length};
     ghost use Rattle.layer_base.specs.Layers.{Changes, from_log};
     ghost use Rattle.layer_stack.specs.Postings.{PostingChanges};
-
     ghost use Rattle.std.specs.Coded.{codes};
     ghost use Rattle.std.specs.FinMap as finite;
 

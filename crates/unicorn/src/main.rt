@@ -4,12 +4,12 @@
 ghost use Rattle.std.specs.Prelude.{◌≡◌, [], IfOk, IfErr, IsErr, ◌↔◌};
 ghost use Rattle.std.specs.IoError.{error_kind};
 
+use first_round::{OpenGate, Status, TurnChooser, run};
 use std::alloc::Global;
 use std::io::ErrorKind;
 use std::process::ExitCode;
 use std::{env, io};
 use uni_base::{StdSink, StdSource};
-use first_round::{OpenGate, Status, TurnChooser, run};
 
 fn main(rt: HostRuntime) -> ExitCode {
     let status = match words_given(rt.alloc(), read_words(&rt)) {

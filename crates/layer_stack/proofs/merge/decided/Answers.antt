@@ -19,6 +19,6 @@ loop-part-preserved c =
     let i = c.loop-part.part-index in let parts = c.args.parts.now in let part = c.part-item.result in let key = c.args.key.now in
     let more : take (i + 1) parts ≡ take i parts ++ part ∷ [] = take_more parts i part c.loop-part-test.true ∙ ap (λ x. take i parts ++ x ∷ []) (sym c.part-item.is) in
     let split : part_table (take (i + 1) parts) ≡ stack_over (part_table (take i parts)) (map part_changes (part ∷ [])) =
-        ap part_table more ∙ ap (stack_over finite.empty) (map-append part_changes (take i parts) (part ∷ [])) ∙ stack_over-append finite.empty (map part_changes (take i parts)) (map part_changes (part ∷ [])) in
+    ap part_table more ∙ ap (stack_over finite.empty) (map-append part_changes (take i parts) (part ∷ [])) ∙ stack_over-append finite.empty (map part_changes (take i parts)) (map part_changes (part ∷ [])) in
     c.over-answer.ensures ∙ ap (λ o. either (find doc_cmp key (map entry_of part.1)) (cond (has_key part.0 key) None o)) c.loop-part.invariant
     ∙ sym (ap (λ t. finite.get t key) split ∙ get-part (part_table (take i parts)) part key)

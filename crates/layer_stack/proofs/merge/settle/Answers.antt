@@ -28,6 +28,7 @@ loop-key-smaller c =
     let found = least_some None c.loop-key.parts c.in-Some.key c.least.ensures.ranked (search rules) in
     let has : HasHead c.in-Some.key c.loop-key.parts = ⊎_elim (λ e. absurd (no_key c.in-Some.key e)) (λ h. h) found.is_one in
     subst (λ (ps : List PartValue). total_of ps < total_of c.loop-key.parts) (sym c.pass.ensures) (total_falls c.in-Some.key c.loop-key.parts has)
+
 pub loop-key-preserved : goal.loop-key-preserved
 loop-key-preserved c =
     let found = least_some None c.loop-key.parts c.in-Some.key c.least.ensures.ranked (search rules) in

@@ -20,8 +20,8 @@ pub returns-in-Some-clause-postings : goal.returns-in-Some-clause-postings
 returns-in-Some-clause-postings c =
     let front : slice_get (remaining_of c.self.inside.parts.items) 0 ≡ Some c.in-Some.posting = search rules in
     let items : (Rattle.std.specs.Vec.with_items c.self.inside.parts c.step_on-self-inside.new.parts).items ≡ c.step_on-self-inside.new.parts =
-        let long : length c.step_on-self-inside.new.parts ≡ c.self.inside.parts.len = search (rules, arith) in
-        with_items_is c.self.inside.parts c.step_on-self-inside.new.parts long in
+    let long : length c.step_on-self-inside.new.parts ≡ c.self.inside.parts.len = search (rules, arith) in
+    with_items_is c.self.inside.parts c.step_on-self-inside.new.parts long in
     let before : c.deref_mut.result.now ≡ c.self.inside.parts.items = search rules in
     ap remaining_of items ∙ c.step_on-self-inside.ensures.left ∙ ap (λ ps. filter (λ (p : Posting). is_before c.in-Some.posting.key p.key) (remaining_of ps)) before
     ∙ after_first c.in-Some.posting (remaining_of c.self.inside.parts.items) (remaining_ranked c.self.inside.parts.items) front ∙ ap (drop 1) c.self.view_is

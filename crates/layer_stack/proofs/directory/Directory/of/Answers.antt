@@ -16,19 +16,19 @@ loop-i-preserved g c =
     let x = c.index-rows-i.result in
     let fits : i < length rows = c.loop-i-test.true in
     let turned : (m : ℕ) (told : List (TermKey × Span)) → IsRead rows m (i + 1) told → c.if-i-rows.from ≡ m → c.if-i-rows.directory ≡ told → IsRead rows c.if-i-rows.from (i + 1) c.if-i-rows.directory =
-        λ m told r e f. subst (λ n. IsRead rows n (i + 1) c.if-i-rows.directory) (sym e) (subst (λ ts. IsRead rows m (i + 1) ts) (sym f) r) in
+    λ m told r e f. subst (λ n. IsRead rows n (i + 1) c.if-i-rows.directory) (sym e) (subst (λ ts. IsRead rows m (i + 1) ts) (sym f) r) in
     let next : IsRead rows c.if-i-rows.from (i + 1) c.if-i-rows.directory =
-        elim c.if-i-rows.branch [
-          | then-i-rows+in_ok-note w ↦
-              let noted : c.if-i-rows.directory ≡ insert_entry term_cmp spans x.0.term (record { from = from; to = i + 1 }) = search rules in
-              let done : IsRead rows (i + 1) (i + 1) (insert_entry term_cmp spans x.0.term (record { from = from; to = i + 1 })) =
-                  elim w.then-i-rows.branch [
-                    | then-i-rows-via-then-i-rows v ↦ read_last rows from i spans x read v.if-i-rows.true c.index-rows-i.is
-                    | then-i-rows-via-else-i-rows+then-not-is_same v ↦
-                        read_end rows from i spans x v.index-rows-i-else-i-rows.result c.requires read (omega (arith, v.if-i-rows.false)) c.index-rows-i.is v.index-rows-i-else-i-rows.is (search rules)
-                  ] in
-              turned (i + 1) _ done (search rules) noted
-          | else-i-rows+else-not-is_same w ↦
-              turned from spans (read_on rows from i spans x w.index-rows-i-else-i-rows.result read (omega (arith, w.if-i-rows.false)) c.index-rows-i.is w.index-rows-i-else-i-rows.is (search rules)) (search rules) (search rules)
-        ] in
+    elim c.if-i-rows.branch [
+      | then-i-rows+in_ok-note w ↦
+          let noted : c.if-i-rows.directory ≡ insert_entry term_cmp spans x.0.term (record { from = from; to = i + 1 }) = search rules in
+          let done : IsRead rows (i + 1) (i + 1) (insert_entry term_cmp spans x.0.term (record { from = from; to = i + 1 })) =
+          elim w.then-i-rows.branch [
+            | then-i-rows-via-then-i-rows v ↦ read_last rows from i spans x read v.if-i-rows.true c.index-rows-i.is
+            | then-i-rows-via-else-i-rows+then-not-is_same v ↦
+                read_end rows from i spans x v.index-rows-i-else-i-rows.result c.requires read (omega (arith, v.if-i-rows.false)) c.index-rows-i.is v.index-rows-i-else-i-rows.is (search rules)
+          ] in
+          turned (i + 1) _ done (search rules) noted
+      | else-i-rows+else-not-is_same w ↦
+          turned from spans (read_on rows from i spans x w.index-rows-i-else-i-rows.result read (omega (arith, w.if-i-rows.false)) c.index-rows-i.is w.index-rows-i-else-i-rows.is (search rules)) (search rules) (search rules)
+    ] in
     record { from = next.from; rows = next.list; spans = next.spans; run = next.run; before = next.before; end = next.end }

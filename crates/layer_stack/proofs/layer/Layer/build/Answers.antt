@@ -37,13 +37,14 @@ invariant_of-result c =
     let columns : c.in_ok-columns.field-0 ≡ map posting_of puts = c.in_ok-columns.ensures {u = tt} ∙ ap (map posting_of) c.deref-2.ensures.value in
     let keys : c.in_ok-keys.field-0.items ≡ map key_of deletes = c.in_ok-keys.ensures {u = tt} ∙ ap (map key_of) c.deref-4.ensures.value in
     let put_told : retagged c.in_ok-of.field-0 puts ≡ puts = subst (λ rs. retagged c.in_ok-of.field-0 rs ≡ rs) c.deref.ensures.value c.in_ok-of.ensures.rows in
-    let delete_told : retagged c.in_ok-of-2.field-0 deletes ≡ deletes = subst (λ rs. retagged c.in_ok-of-2.field-0 rs ≡ rs) c.deref-3.ensures.value c.in_ok-of-2.ensures.rows in
-    (are_laid puts (put_rows c.in_ok-of.field-0 c.in_ok-columns.field-0) c.in_ok-of.field-0 (length c.in_ok-columns.field-0) (puts_laid c.in_ok-of.field-0 c.in_ok-columns.field-0 puts columns put_told)
-    (ap length columns ∙ length-map puts posting_of) (subst (λ rs. T (is_sorted place_cmp rs)) (sym put_last) (finite.entries_sorted (from_log {R = place_cmp} c.delta.inside.puts.items)))
-    (subst (λ rs. IsSpans (length rs) c.in_ok-of.field-0) c.deref.ensures.value c.in_ok-of.ensures.spans) (omega (arith, put_few, c.delta.invariant.1)),
-    are_laid deletes (delete_rows c.in_ok-of-2.field-0 c.in_ok-keys.field-0.items) c.in_ok-of-2.field-0 (length c.in_ok-keys.field-0.items) (deletes_laid c.in_ok-of-2.field-0 c.in_ok-keys.field-0.items deletes keys delete_told)
-    (ap length keys ∙ length-map deletes key_of) (subst (λ rs. T (is_sorted place_cmp rs)) (sym delete_last) (finite.entries_sorted (from_log {R = place_cmp} c.delta.inside.deletes.items)))
-    (subst (λ rs. IsSpans (length rs) c.in_ok-of-2.field-0) c.deref-3.ensures.value c.in_ok-of-2.ensures.spans) (omega (arith, delete_few, c.delta.invariant.0)))
+    let delete_told : retagged c.in_ok-of-2.field-0 deletes ≡ deletes = subst (λ rs. retagged c.in_ok-of-2.field-0 rs ≡ rs) c.deref-3.ensures.value c.in_ok-of-2.ensures.rows in (
+      are_laid puts (put_rows c.in_ok-of.field-0 c.in_ok-columns.field-0) c.in_ok-of.field-0 (length c.in_ok-columns.field-0) (puts_laid c.in_ok-of.field-0 c.in_ok-columns.field-0 puts columns put_told)
+          (ap length columns ∙ length-map puts posting_of) (subst (λ rs. T (is_sorted place_cmp rs)) (sym put_last) (finite.entries_sorted (from_log {R = place_cmp} c.delta.inside.puts.items)))
+          (subst (λ rs. IsSpans (length rs) c.in_ok-of.field-0) c.deref.ensures.value c.in_ok-of.ensures.spans) (omega (arith, put_few, c.delta.invariant.1)),
+      are_laid deletes (delete_rows c.in_ok-of-2.field-0 c.in_ok-keys.field-0.items) c.in_ok-of-2.field-0 (length c.in_ok-keys.field-0.items) (deletes_laid c.in_ok-of-2.field-0 c.in_ok-keys.field-0.items deletes keys delete_told)
+          (ap length keys ∙ length-map deletes key_of) (subst (λ rs. T (is_sorted place_cmp rs)) (sym delete_last) (finite.entries_sorted (from_log {R = place_cmp} c.delta.inside.deletes.items)))
+          (subst (λ rs. IsSpans (length rs) c.in_ok-of-2.field-0) c.deref-3.ensures.value c.in_ok-of-2.ensures.spans) (omega (arith, delete_few, c.delta.invariant.0)),
+    )
 
 pub returns : goal.returns
 returns c =
