@@ -55,7 +55,7 @@ leads_count a b xs (stays state) = omega arith
 leads_count a b xs (skips state end line lines unended skip rest) = omega (arith, leads_count (passed state) end lines rest)
 leads_count a b xs (tells state end line lines said unended told_line short say rule rest) = omega (arith, leads_count (told state said) end lines rest)
 
-leads_append : (a b c : HeaderState) (xs ys : List (List ℕ)) → Leads a xs b → Leads b ys c → Leads a (xs ++ ys) c
+pub leads_append : (a b c : HeaderState) (xs ys : List (List ℕ)) → Leads a xs b → Leads b ys c → Leads a (xs ++ ys) c
 leads_append a b c xs ys (stays state) more = more
 leads_append a b c xs ys (skips state end line lines unended skip rest) more = skips state c line (lines ++ ys) unended skip (leads_append (passed state) end c lines ys rest more)
 leads_append a b c xs ys (tells state end line lines said unended told_line short say rule rest) more =
@@ -147,7 +147,7 @@ opened longest front state leads unended (line ∷ rest) = by (step state line) 
     by (goes next) later is = opened_goes longest front state next line rest leads (step_shows state line (goes next) unended is) (later next) next.ended refl
 
 -- and there is no other
-only_opening : (longest : ℕ) (lines : List (List ℕ)) (answer : Opening) → IsOpening longest lines answer → answer ≡ opening_of longest lines
+pub only_opening : (longest : ℕ) (lines : List (List ℕ)) (answer : Opening) → IsOpening longest lines answer → answer ≡ opening_of longest lines
 only_opening longest lines (opens schema number rest) (header, is, count, spells) =
     let run = leads_end (opening longest) spells.last header rest spells.leads refl spells.begins in
     let number_is : number ≡ spells.last.taken + 1 = omega (arith, count, leads_count (opening longest) spells.last header spells.leads) in

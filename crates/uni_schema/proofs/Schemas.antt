@@ -1,6 +1,7 @@
 -- What every schema keeps, as it grows.
-use Rattle.std.proofs.Common.{◌≡◌, ℕ, zero, suc, ◌+◌, ◌≤◌, ◌<◌, ◌&&◌, ◌||◌, not, nat_lt, nat_le, Bool, true, false, cond, if◌then◌else◌, List, [], ◌∷◌, ◌++◌, length, map, Option, None, Some, slice_get, refl, ap, length-append, ◌∙◌, sym, arith, zero-add}
-use Rattle.std.specs.List.{list_all, count_by, prefix_len, position}
+use Rattle.std.proofs.Common.{◌≡◌, ℕ, zero, suc, ◌+◌, ◌≤◌, ◌<◌, ◌&&◌, ◌||◌, not, nat_lt, nat_le, Bool, true, false, cond, if◌then◌else◌, List, [], ◌∷◌, ◌++◌, length, map, Option, None, Some, slice_get, refl, ap, length-append, ◌∙◌, sym, arith, zero-add, append_assoc, append-nil}
+use Rattle.std.specs.List.{list_all, list_any, count_by, prefix_len, position}
+use Rattle.std.proofs.lemmas.List.{map-append}
 use Rattle.std.specs.Map.{keys_of, values_of}
 use Rattle.std.proofs.lemmas.Bool.{and_parts}
 use Rattle.std.proofs.lemmas.Bool.Decides.{nat_tests}
@@ -8,7 +9,7 @@ use Rattle.std.proofs.lemmas.List.Folds.{list_all-append}
 use Rattle.std.proofs.lemmas.List.Sums.{sum_by-append}
 use Rattle.indexmap.specs.IndexMap.{insert_entry}
 use Rattle.uni_base.specs.Fields.{same}
-use Rattle.uni_schema.specs.Schema.{Declarations, IsSchema, with_vertical, with_type, is_vertical, is_type, starts_below, starts_at_words, is_index, is_target_owner, denials, denied, denying}
+use Rattle.uni_schema.specs.Schema.{Declarations, IsSchema, with_vertical, with_type, is_vertical, is_type, starts_below, starts_at_words, is_index, is_target_owner, denials, denied, denying, is_name, is_vertical_name, are_fresh, vertical_names, type_names}
 use Rattle.uni_schema.specs.Rules.{may_deny}
 use Rattle.uni_schema.specs.declared.schema.VerticalDef.{VerticalDef}
 use Rattle.uni_schema.specs.declared.schema.TypeDef.{TypeDef}
@@ -45,14 +46,29 @@ all_types-more count (t ∷ ts) h =
     let parts = and_parts (is_type count t) (list_all (is_type count) ts) h in
     both _ _ (is_type-more count t parts.0) (all_types-more count ts parts.1)
 
-pub with_vertical-kept : (s : Declarations) (v : VerticalDef) → IsSchema s → length s.verticals < 16 → is_vertical v ≡ true → IsSchema (with_vertical s v)
-with_vertical-kept s v kept room fits = record {
+-- one name more, which is new, at the end
+fresh_more : (before names : List (List ℕ)) (name : List ℕ) → are_fresh before names ≡ true → list_any (same name) (before ++ names) ≡ false → are_fresh before (names ++ name ∷ []) ≡ true
+fresh_more before [] name fresh none = ap (λ b. not b && true) (ap (list_any (same name)) (sym (append-nil before)) ∙ none)
+fresh_more before (x ∷ names) name fresh none =
+    let parts = and_parts (not (list_any (same x) before)) (are_fresh (before ++ x ∷ []) names) fresh in
+    both _ _ parts.0 (fresh_more (before ++ x ∷ []) names name parts.1 (ap (list_any (same name)) (append_assoc before (x ∷ []) names) ∙ none))
+
+map_more : {X : Type 0} (name : X → List ℕ) (xs : List X) (x : X) → map name (xs ++ x ∷ []) ≡ map name xs ++ name x ∷ []
+map_more name xs x = map-append name xs (x ∷ [])
+
+pub with_vertical-kept : (s : Declarations) (v : VerticalDef) → IsSchema s → length s.verticals < 16 → is_vertical v ≡ true → is_vertical_name v.name ≡ true
+    → list_any (same v.name) (vertical_names s) ≡ false → IsSchema (with_vertical s v)
+with_vertical-kept s v kept room fits named fresh = record {
   format = kept.format;
   few_verticals = omega (arith, length-append s.verticals (v ∷ []));
   few_types = kept.few_types;
   few_denials = kept.few_denials;
   verticals = all_more is_vertical s.verticals v kept.verticals fits;
   types = rw (length-append s.verticals (v ∷ [])) (all_types-more (length s.verticals) s.types kept.types);
+  verticals_named = ap (list_all is_vertical_name) (map_more (λ (d : VerticalDef). d.name) s.verticals v) ∙ all_more is_vertical_name (vertical_names s) v.name kept.verticals_named named;
+  types_named = kept.types_named;
+  verticals_apart = ap (are_fresh []) (map_more (λ (d : VerticalDef). d.name) s.verticals v) ∙ fresh_more [] (vertical_names s) v.name kept.verticals_apart fresh;
+  types_apart = kept.types_apart;
 }
 
 denials-more : (ts : List TypeDef) (t : TypeDef) → t.deny ≡ false → denials (ts ++ t ∷ []) ≡ denials ts
@@ -60,17 +76,22 @@ denials-more ts t allows =
     let last : denials (t ∷ []) ≡ 0 = rw allows refl in
     omega (arith, sum_by-append (λ (d : TypeDef). cond d.deny 1 0) ts (t ∷ []), last)
 
-denials-cons : (t : TypeDef) (ts : List TypeDef) → denials (t ∷ ts) ≡ cond t.deny 1 0 + denials ts
+pub denials-cons : (t : TypeDef) (ts : List TypeDef) → denials (t ∷ ts) ≡ cond t.deny 1 0 + denials ts
 denials-cons t ts = sum_by-append (λ (d : TypeDef). cond d.deny 1 0) (t ∷ []) ts ∙ ap (λ n. n + denials ts) (zero-add (cond t.deny 1 0))
 
-pub with_type-kept : (s : Declarations) (t : TypeDef) → IsSchema s → length s.types < 256 → is_type (length s.verticals) t ≡ true → t.deny ≡ false → IsSchema (with_type s t)
-with_type-kept s t kept room fits allows = record {
+pub with_type-kept : (s : Declarations) (t : TypeDef) → IsSchema s → length s.types < 256 → is_type (length s.verticals) t ≡ true → t.deny ≡ false → is_name t.name ≡ true
+    → list_any (same t.name) (type_names s) ≡ false → IsSchema (with_type s t)
+with_type-kept s t kept room fits allows named fresh = record {
   format = kept.format;
   few_verticals = kept.few_verticals;
   few_types = omega (arith, length-append s.types (t ∷ []));
   few_denials = rw (denials-more s.types t allows) kept.few_denials;
   verticals = kept.verticals;
   types = all_more (is_type (length s.verticals)) s.types t kept.types fits;
+  verticals_named = kept.verticals_named;
+  types_named = ap (list_all is_name) (map_more (λ (d : TypeDef). d.name) s.types t) ∙ all_more is_name (type_names s) t.name kept.types_named named;
+  verticals_apart = kept.verticals_apart;
+  types_apart = ap (are_fresh []) (map_more (λ (d : TypeDef). d.name) s.types t) ∙ fresh_more [] (type_names s) t.name kept.types_apart fresh;
 }
 
 -- the place of the first that has the name
@@ -91,6 +112,15 @@ denying-length name (t ∷ ts) = by (same name t.name) (denying-length name ts)
     by : (here : Bool) → length (denying name ts) ≡ length ts → length (if here then denied t ∷ ts else t ∷ denying name ts) ≡ suc (length ts)
     by true rest = refl
     by false rest = ap suc rest
+
+denying-names : (name : List ℕ) (ts : List TypeDef) → map (λ (d : TypeDef). d.name) (denying name ts) ≡ map (λ (d : TypeDef). d.name) ts
+denying-names name [] = refl
+denying-names name (t ∷ ts) = by (same name t.name) (denying-names name ts)
+  where
+    by : (here : Bool) → map (λ (d : TypeDef). d.name) (denying name ts) ≡ map (λ (d : TypeDef). d.name) ts
+        → map (λ (d : TypeDef). d.name) (if here then denied t ∷ ts else t ∷ denying name ts) ≡ t.name ∷ map (λ (d : TypeDef). d.name) ts
+    by true rest = refl
+    by false rest = ap (λ ns. t.name ∷ ns) rest
 
 one_more : (deny : Bool) (n : ℕ) → 1 + n ≤ cond deny 1 0 + n + 1
 one_more true n = omega arith
@@ -146,6 +176,10 @@ denying-kept s name t kept room at may = record {
   few_denials = omega (arith, denying-denials name s.types);
   verticals = kept.verticals;
   types = denying-types (length s.verticals) name s.types t kept.types at may;
+  verticals_named = kept.verticals_named;
+  types_named = ap (list_all is_name) (denying-names name s.types) ∙ kept.types_named;
+  verticals_apart = kept.verticals_apart;
+  types_apart = ap (are_fresh []) (denying-names name s.types) ∙ kept.types_apart;
 }
 
 -- the entries of types, of which one is put anew under its name, and denies

@@ -1,5 +1,5 @@
 -- Lines by their texts.
-use Rattle.std.proofs.Common.{◌≡◌, ◌↔◌, ℕ, ◌==◌, ◌&&◌, ◌||◌, not, nat_le, Bool, true, false, cond, if◌then◌else◌, List, [], ◌∷◌, Option, None, Some, refl, ap, sym, subst, ◌∙◌, codes, arith, length}
+use Rattle.std.proofs.Common.{◌≡◌, ◌↔◌, ℕ, ◌==◌, ◌&&◌, ◌||◌, not, nat_le, Bool, true, false, cond, if◌then◌else◌, List, [], ◌∷◌, Option, None, Some, IfSome, refl, ap, sym, subst, ◌∙◌, codes, arith, length}
 use Rattle.std.specs.Option.{option_map, option_and_then}
 use Rattle.std.specs.List.{list_all}
 use Rattle.std.specs.Cmp.Lexicographic.{same_text}
@@ -12,6 +12,8 @@ use Rattle.uni_base.specs.Words.{is_word, is_word_byte, is_digit, starts_with_le
 use Rattle.uni_base.specs.Numbers.{number_of, is_number, starts_with_zero}
 use Rattle.uni_base.proofs.FieldLemmas.{spaced-fields_of, fields_of-spaced}
 use Rattle.uni_schema.specs.Lines.{name_of, owner_of, store_of, format_by, vertical_by, type_by, deny_by, begin_by, declared_by, declaration_of}
+use Rattle.uni_schema.specs.Schema.{is_name}
+use Rattle.uni_schema.specs.Rules.{is_written}
 use Rattle.uni_schema.specs.HeaderText.{IsName, IsNumeralOf, owner_word, store_word, FieldsSay, Says, LinesByText}
 use Rattle.uni_schema.specs.declared.line.HeaderLine.{HeaderLine}
 use Rattle.uni_schema.specs.declared.line.HeaderLine.TheVariants.{Format, Vertical, EdgeType, Deny, Begin}
@@ -22,9 +24,9 @@ use Rattle.uni_schema.specs.declared.schema.Store.TheVariants.{Index, Forward}
 
 -- a name that was read is the text
 name_read : (text name : List ℕ) → name_of text ≡ Some name → (text ≡ name) × IsName name
-name_read text name e = by (is_word text && starts_with_letter text) refl e
+name_read text name e = by (is_name text) refl e
   where
-    by : (test : Bool) → (is_word text && starts_with_letter text) ≡ test → (if test then Some text else None) ≡ Some name → (text ≡ name) × IsName name
+    by : (test : Bool) → is_name text ≡ test → (if test then Some text else None) ≡ Some name → (text ≡ name) × IsName name
     by true is e = let one : text ≡ name = cc in (one, subst IsName one is)
     by false is e = cc
 
@@ -214,3 +216,18 @@ heard line said (fields, is, say) = ap declaration_of is ∙ fields_given fields
 
 pub lines_by_text : LinesByText
 lines_by_text = record { is = λ line d. (says line d, heard line d) }
+
+-- what a line says by its text declares names
+written : (line : List ℕ) (said : HeaderLine) → Says line said → is_written said ≡ true
+written line (Format format) (fields, is, say) = refl
+written line (Vertical name shards replicas) (fields, is, (a, b, at, named, s, r)) = named
+written line (EdgeType name source target owner store) (fields, is, (at, named, from, to)) = named
+written line (Deny name) (fields, is, say) = refl
+written line Begin (fields, is, say) = refl
+
+pub declared_written : (line : List ℕ) (said : HeaderLine) → declaration_of line ≡ Some said → is_written said ≡ true
+declared_written line said e = written line said (says line said e)
+
+pub written_if : (line : List ℕ) (read : Option HeaderLine) → read ≡ declaration_of line → IfSome read (λ said. is_written said ≡ true)
+written_if line None e = tt
+written_if line (Some said) e = declared_written line said (sym e)

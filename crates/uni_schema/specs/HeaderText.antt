@@ -3,10 +3,9 @@ use Rattle.std.specs.Prelude.{ℕ, ◌+◌, ◌≤◌, ◌<◌, Bool, true, fals
 use Rattle.uni_base.specs.Fields.{spaced, is_skipped}
 use Rattle.uni_schema.specs.Header.{HeaderState, opening, passed, told, Opening, opens, refused, opening_of}
 use Rattle.uni_schema.specs.Rules.{rules}
-use Rattle.uni_schema.specs.Schema.{Declarations}
+use Rattle.uni_schema.specs.Schema.{Declarations, is_name}
 use Rattle.uni_schema.specs.declared.refusal.SchemaRefusal.{SchemaRefusal}
 use Rattle.uni_schema.specs.declared.refusal.SchemaRefusal.TheVariants.{BadLine, NoBegin}
-use Rattle.uni_base.specs.Words.{is_word, starts_with_letter}
 use Rattle.uni_base.specs.Numbers.{number_of}
 use Rattle.uni_schema.specs.Lines.{declaration_of}
 use Rattle.uni_schema.specs.declared.line.HeaderLine.{HeaderLine}
@@ -16,9 +15,8 @@ use Rattle.uni_schema.specs.declared.schema.Owner.TheVariants.{Source, Target, B
 use Rattle.uni_schema.specs.declared.schema.Store.{Store}
 use Rattle.uni_schema.specs.declared.schema.Store.TheVariants.{Index, Forward}
 
--- a name is a word whose first byte is a letter
 abbrev pub IsName : List ℕ → Type 0
-IsName name = (is_word name && starts_with_letter name) ≡ true
+IsName name = is_name name ≡ true
 
 -- a text is a numeral of a number
 abbrev pub IsNumeralOf : List ℕ → ℕ → Type 0

@@ -2,7 +2,7 @@
 use Rattle.std.specs.Prelude.{ℕ, Bool, ◌&&◌, ◌==◌, if◌then◌else◌, List, [], ◌∷◌, Option, None, Some, codes}
 use Rattle.std.specs.Option.{option_map, option_and_then}
 use Rattle.uni_base.specs.Fields.{same, fields_of}
-use Rattle.uni_base.specs.Words.{is_word, starts_with_letter}
+use Rattle.uni_schema.specs.Schema.{is_name}
 use Rattle.uni_base.specs.Numbers.{number_of}
 use Rattle.uni_schema.specs.declared.line.HeaderLine.{HeaderLine}
 use Rattle.uni_schema.specs.declared.line.HeaderLine.TheVariants.{Format, Vertical, EdgeType, Deny, Begin}
@@ -13,7 +13,7 @@ use Rattle.uni_schema.specs.declared.schema.Store.TheVariants.{Index, Forward}
 
 -- the name that a text is, if it is one
 abbrev pub name_of : List ℕ → Option (List ℕ)
-name_of text = if is_word text && starts_with_letter text then Some text else None
+name_of text = if is_name text then Some text else None
 
 -- the owner of a type by its word
 abbrev pub owner_of : List ℕ → Option Owner

@@ -2,7 +2,7 @@
 use Rattle.std.specs.Prelude.{ℕ, Bool, true, false, ◌==◌, ◌&&◌, ◌||◌, not, nat_le, if◌then◌else◌, List, [], ◌∷◌, length, Option, None, Some, codes, find, is_some, is_none, unwrap_or, slice_get}
 use Rattle.std.specs.Option.{option_map, option_map_or, option_and_then}
 use Rattle.uni_base.specs.Fields.{same}
-use Rattle.uni_schema.specs.Schema.{Declarations, with_vertical, with_type, denying, denials, vertical_no, type_no, type_at, is_target_owner, is_index, starts_at_words}
+use Rattle.uni_schema.specs.Schema.{Declarations, is_name, with_vertical, with_type, denying, denials, vertical_no, type_no, type_at, is_target_owner, is_index, starts_at_words}
 use Rattle.uni_schema.specs.declared.line.HeaderLine.{HeaderLine}
 use Rattle.uni_schema.specs.declared.line.HeaderLine.TheVariants.{Format, Vertical, EdgeType, Deny, Begin}
 use Rattle.uni_schema.specs.declared.schema.Owner.{Owner}
@@ -53,21 +53,31 @@ rules n begun schema (EdgeType name source target owner store) = refused_if (not
 rules n begun schema (Deny name) = refused_if (not begun) (BadLine n) (deny_rules n schema name)
 rules n begun schema Begin = refused_if (not begun) (BadLine n) None
 
+-- the names that a line declares are names
+abbrev pub is_written : HeaderLine → Bool
+is_written (Vertical name shards replicas) = is_name name
+is_written (EdgeType name source target owner store) = is_name name
+is_written _ = true
+
 -- where edges start by the name of their source
 abbrev pub origin_of : Declarations → List ℕ → Origin
 origin_of schema source = if is_word_name source then origins.Words else origins.Vertical (unwrap_or (vertical_no schema source) 0)
 
--- what is declared after a line
-abbrev pub declares : Declarations → HeaderLine → Declarations
-declares schema (Format format) = record schema { format = format }
-declares schema (Vertical name shards replicas) = with_vertical schema (record { name = name; shards = shards; replicas = replicas })
-declares schema (EdgeType name source target owner store) = with_type schema (record {
+-- the type that a line declares
+abbrev pub type_told : Declarations → List ℕ → List ℕ → List ℕ → Owner → Store → TypeDef
+type_told schema name source target owner store = record {
   name = name;
   origin = origin_of schema source;
   target = unwrap_or (vertical_no schema target) 0;
   owner = owner;
   store = store;
   deny = false;
-})
+}
+
+-- what is declared after a line
+abbrev pub declares : Declarations → HeaderLine → Declarations
+declares schema (Format format) = record schema { format = format }
+declares schema (Vertical name shards replicas) = with_vertical schema (record { name = name; shards = shards; replicas = replicas })
+declares schema (EdgeType name source target owner store) = with_type schema (type_told schema name source target owner store)
 declares schema (Deny name) = record schema { types = denying name schema.types }
 declares schema Begin = schema

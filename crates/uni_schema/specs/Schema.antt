@@ -1,10 +1,11 @@
 -- What a header declares.
-use Rattle.std.specs.Prelude.{ℕ, Bool, true, false, if◌then◌else◌, ◌≡◌, ◌≤◌, ◌%◌, ◌&&◌, ◌||◌, ◌==◌, not, nat_le, nat_lt, List, [], ◌∷◌, ◌++◌, length, Option, None, Some, map, count_by, position, slice_get, is_some}
+use Rattle.std.specs.Prelude.{ℕ, Bool, true, false, if◌then◌else◌, ◌≡◌, ◌≤◌, ◌%◌, ◌&&◌, ◌||◌, ◌==◌, not, nat_le, nat_lt, List, [], ◌∷◌, ◌++◌, length, codes, Option, None, Some, map, count_by, position, slice_get, is_some}
 use Rattle.std.specs.Option.{option_map, option_and_then, option_map_or}
-use Rattle.std.specs.List.{list_all}
+use Rattle.std.specs.List.{list_all, list_any}
 use Rattle.std.specs.Map.{keys_of, values_of}
 use Rattle.uni_base.specs.Fields.{same}
 use Rattle.uni_base.specs.Numbers.{id_of}
+use Rattle.uni_base.specs.Words.{is_word, starts_with_letter}
 use Rattle.uni_base.specs.declared.edge.EdgeRef.{EdgeRef}
 use Rattle.uni_base.specs.declared.edge.Key.{Key}
 use Rattle.uni_base.specs.declared.edge.Key.TheVariants.{Id, Word}
@@ -124,6 +125,24 @@ is_type count type_def =
 abbrev pub denials : List TypeDef → ℕ
 denials types = count_by (λ type_def. type_def.deny) types
 
+-- a name is a word whose first byte is a letter; `word` is no vertical's
+abbrev pub is_name : List ℕ → Bool
+is_name text = is_word text && starts_with_letter text
+
+abbrev pub is_vertical_name : List ℕ → Bool
+is_vertical_name text = is_name text && not (same text (codes "word"))
+
+-- no name of a list is the same as one before it, or as one of those that stand before the list
+abbrev pub are_fresh : List (List ℕ) → List (List ℕ) → Bool
+are_fresh before [] = true
+are_fresh before (name ∷ names) = not (list_any (same name) before) && are_fresh (before ++ name ∷ []) names
+
+abbrev pub vertical_names : Declarations → List (List ℕ)
+vertical_names schema = map (λ vertical. vertical.name) schema.verticals
+
+abbrev pub type_names : Declarations → List (List ℕ)
+type_names schema = map (λ type_def. type_def.name) schema.types
+
 -- what every schema keeps
 pub record IsSchema (schema : Declarations) : Type 0 where
   pub format : ((schema.format == 1) || (schema.format == 2)) ≡ true
@@ -132,3 +151,7 @@ pub record IsSchema (schema : Declarations) : Type 0 where
   pub few_denials : denials schema.types ≤ 8
   pub verticals : list_all is_vertical schema.verticals ≡ true
   pub types : list_all (is_type (length schema.verticals)) schema.types ≡ true
+  pub verticals_named : list_all is_vertical_name (vertical_names schema) ≡ true
+  pub types_named : list_all is_name (type_names schema) ≡ true
+  pub verticals_apart : are_fresh [] (vertical_names schema) ≡ true
+  pub types_apart : are_fresh [] (type_names schema) ≡ true

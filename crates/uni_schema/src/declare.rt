@@ -1,11 +1,11 @@
 ghost use Rattle.std.specs.Prelude.{◌≡◌, ◌⊎◌, ◌≤◌, ◌<◌, Some, None, OnOk, OnErr, IfErr, false, true, length, map, ◌==◌, ◌||◌};
 ghost use Rattle.std.specs.Option.{option_map_or, option_and_then};
-ghost use Rattle.uni_schema.specs.Rules.{rules, declares, origin_of, may_deny};
-ghost use Rattle.uni_schema.specs.Schema.{with_vertical, with_type, denying, is_vertical, is_type, vertical_no, type_no, type_at, denials};
+ghost use Rattle.uni_schema.specs.Rules.{rules, declares, origin_of, type_told, type_rules, may_deny, is_written};
+ghost use Rattle.uni_schema.specs.Schema.{with_vertical, with_type, denying, is_vertical, is_type, is_name, is_vertical_name, vertical_no, type_no, type_at, denials};
 
 use crate::line::HeaderLine;
 use crate::rules::is_word_name;
-use crate::{Origin, Schema, SchemaRefusal, TypeDef, VerticalDef};
+use crate::{Origin, Owner, Schema, SchemaRefusal, Store, TypeDef, VerticalDef};
 use std::alloc::AllocError;
 use uni_base::Word;
 
@@ -18,6 +18,7 @@ impl Schema {
         begun: bool,
         line: &HeaderLine,
     ) -> Result<(), SchemaRefusal>
+        requires { is_written line.now ≡ true }
         ensures allowed { OnOk result (rules line_no begun self.old line.now ≡ None) }
         ensures ok { OnOk result (self.new ≡ declares self.old line.now) }
         ensures refused { IfErr result (λ refusal. (refusal ≡ SchemaRefusal.Memory) ⊎ (rules line_no begun self.old line.now ≡ Some refusal)) }
@@ -70,7 +71,8 @@ impl Schema {
 
     // Declares what a line says that no rule refuses.
     fn add(&mut self, line_no: u64, begun: bool, line: &HeaderLine) -> Result<(), AllocError>
-        requires { rules line_no begun self.old line.now ≡ None }
+        requires allowed { rules line_no begun self.old line.now ≡ None }
+        requires written { is_written line.now ≡ true }
         ensures ok { OnOk result (self.new ≡ declares self.old line.now) }
         ensures err { OnErr result (self.new ≡ self.old) }
     {
@@ -85,18 +87,36 @@ impl Schema {
                 replicas: *replicas as u32,
             }),
             HeaderLine::EdgeType(name, source, target, owner, store) => {
-                let type_def = TypeDef {
-                    name: *name,
-                    origin: self.origin_of(source),
-                    target: self.vertical_no(target).unwrap_or(0),
-                    owner: *owner,
-                    store: *store,
-                    deny: false,
-                };
+                let type_def = self.type_told(line_no, name, source, target, *owner, *store);
                 self.add_type(type_def)
             }
             HeaderLine::Deny(name) => self.deny(name),
             HeaderLine::Begin => Ok(()),
+        }
+    }
+
+    // The type that a line declares which no rule refuses.
+    fn type_told(
+        &self,
+        line_no: u64,
+        name: &Word,
+        source: &Word,
+        target: &Word,
+        owner: Owner,
+        store: Store,
+    ) -> TypeDef
+        requires { type_rules line_no self.now name.now source.now target.now owner store ≡ None }
+        ensures told { result ≡ type_told self.now name.now source.now target.now owner store }
+        ensures fits { is_type (length self.now.verticals) result ≡ true }
+    {
+        let _ = line_no;
+        TypeDef {
+            name: *name,
+            origin: self.origin_of(source),
+            target: self.vertical_no(target).unwrap_or(0),
+            owner,
+            store,
+            deny: false,
         }
     }
 
@@ -115,6 +135,7 @@ impl Schema {
     fn add_vertical(&mut self, vertical: VerticalDef) -> Result<(), AllocError>
         requires room { length self.old.verticals < 16 }
         requires fresh { vertical_no self.old vertical.name ≡ None }
+        requires named { is_vertical_name vertical.name ≡ true }
         requires fits { is_vertical vertical ≡ true }
         ensures ok { OnOk result (self.new ≡ with_vertical self.old vertical) }
         ensures err { OnErr result (self.new ≡ self.old) }
@@ -127,6 +148,7 @@ impl Schema {
     fn add_type(&mut self, type_def: TypeDef) -> Result<(), AllocError>
         requires room { length self.old.types < 256 }
         requires fresh { type_no self.old type_def.name ≡ None }
+        requires named { is_name type_def.name ≡ true }
         requires fits { is_type (length self.old.verticals) type_def ≡ true }
         requires allows { type_def.deny ≡ false }
         ensures ok { OnOk result (self.new ≡ with_type self.old type_def) }

@@ -1,5 +1,6 @@
-ghost use Rattle.std.specs.Prelude.{◌≡◌, ◌+◌, ◌⊎◌, false, true, IfOk, IfErr, OnOk, OnErr};
+ghost use Rattle.std.specs.Prelude.{◌≡◌, ◌+◌, ◌⊎◌, false, true, IfOk, IfErr, IfSome, OnOk, OnErr};
 ghost use Rattle.uni_schema.specs.Header.{opening, step, line_of, goes, refuses};
+ghost use Rattle.uni_schema.specs.Rules.{is_written};
 
 use crate::line::{HeaderLine, declaration_of};
 use crate::{Schema, SchemaRefusal};
@@ -64,7 +65,8 @@ impl HeaderReader {
 
     // What a line says, if it is not too long and of one of the forms.
     fn line_of(&self, line: &[u8]) -> Option<HeaderLine>
-        ensures { result ≡ line_of self.now line.now }
+        ensures said { result ≡ line_of self.now line.now }
+        ensures written { IfSome result (λ said. is_written said ≡ true) }
     {
         if line.len() as u64 <= self.longest {
             declaration_of(line)

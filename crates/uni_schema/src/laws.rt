@@ -1,5 +1,6 @@
 //! Laws about definitions, each the contract of a function that does nothing.
 ghost use Rattle.uni_schema.specs.HeaderText.{LinesByText, OpensByText};
+ghost use Rattle.uni_schema.specs.Print.{PrintIsRead};
 
 /// What is read off a line of a header is exactly what it says by its text.
 #[tactic(auto, using(crate::proofs::Texts::lines_by_text))]
@@ -12,4 +13,10 @@ pub fn lines_by_text()
 #[tactic(auto, using(crate::proofs::Openings::opens_by_text))]
 pub fn opens_by_text()
     ensures { OpensByText }
+{}
+
+/// The lines of a schema's text are read as that schema again, under the standard limit of a line.
+#[tactic(auto, using(crate::proofs::PrintLaws::print_is_read))]
+pub fn print_is_read()
+    ensures { PrintIsRead }
 {}

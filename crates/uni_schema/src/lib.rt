@@ -6,6 +6,7 @@ pub mod examples;
 mod header;
 pub mod laws;
 mod line;
+mod print;
 mod refusal;
 mod rules;
 mod schema;
@@ -13,5 +14,6 @@ mod schema;
 mod tests;
 
 pub use header::HeaderReader;
+pub use print::print_header;
 pub use refusal::SchemaRefusal;
 pub use schema::{Origin, Owner, Owners, Schema, Store, TypeDef, VerticalDef};

@@ -1,5 +1,6 @@
-ghost use Rattle.std.specs.Prelude.{◌≡◌};
-ghost use Rattle.uni_schema.specs.Lines.{name_of, owner_of, store_of, begin_by, format_by, vertical_by, type_by, deny_by, declaration_of};
+ghost use Rattle.std.specs.Prelude.{◌≡◌, IfSome, true};
+ghost use Rattle.uni_schema.specs.Rules.{is_written};
+ghost use Rattle.uni_schema.specs.Lines.{name_of, owner_of, store_of, begin_by, format_by, vertical_by, type_by, deny_by, declared_by, declaration_of};
 
 use crate::{Owner, Store};
 use uni_base::{Fields, Word, read_number};
@@ -22,9 +23,16 @@ pub(crate) enum HeaderLine {
 
 /// What a line says, if it is of one of the forms of a header.
 pub(crate) fn declaration_of(line: &[u8]) -> Option<HeaderLine>
-    ensures { result ≡ declaration_of line.now }
+    ensures said { result ≡ declaration_of line.now }
+    ensures written { IfSome result (λ said. is_written said ≡ true) }
 {
-    let mut fields = Fields::of(line);
+    declared_by(Fields::of(line))
+}
+
+// What fields say, if they are of one of the forms.
+fn declared_by(mut fields: Fields<'_>) -> Option<HeaderLine>
+    ensures { result ≡ declared_by fields.entry }
+{
     let word = fields.next()?;
     if word == b"unicorn".as_slice() {
         format_by(fields)

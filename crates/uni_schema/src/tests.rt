@@ -1,7 +1,7 @@
 //! Headers, and what is answered at their first line that is refused.
 ghost use Rattle.std.specs.Prelude.{◌≤◌};
 
-use crate::{HeaderReader, Origin, Owner, Schema, SchemaRefusal, Store};
+use crate::{HeaderReader, Origin, Owner, Schema, SchemaRefusal, Store, print_header};
 use std::alloc::Global;
 use std::test::Fail;
 use uni_base::{EdgeRef, EntityId, Key, Limits, Word, cut_at, read_number};
@@ -130,6 +130,20 @@ const PEOPLE: &[u8] =
 
 fn people(alloc: Global) -> Result<Schema, Fail> {
     Ok(open(alloc, PEOPLE)?.ok().ok_or("refused")?)
+}
+
+// The print of that header: its lines, in the order in which a print has them.
+#[test]
+fn a_print_has_the_lines_of_its_header(rt: HostRuntime) -> Result<(), Fail> {
+    let schema = people(rt.alloc())?;
+    let print = print_header(rt.alloc(), &schema)?;
+    let mut lines = Vec::new(rt.alloc());
+    for byte in PEOPLE {
+        lines.push(if *byte == b'|' { b'\n' } else { *byte })?;
+    }
+    lines.push(b'\n')?;
+    assert_eq!(rt; print.as_slice(), lines.as_slice());
+    Ok(())
 }
 
 #[test]

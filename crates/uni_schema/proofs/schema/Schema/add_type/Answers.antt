@@ -1,8 +1,9 @@
 use Rattle.std.proofs.Common.{◌≡◌, ◌<◌, List, [], ◌∷◌, ◌++◌, length, arith, ap, sym, subst}
 use Rattle.std.specs.Map.{values_of}
-use Rattle.uni_schema.specs.Schema.{Declarations, IsSchema}
+use Rattle.uni_schema.specs.Schema.{Declarations, IsSchema, type_names}
 use Rattle.uni_schema.specs.declared.schema.TypeDef.{TypeDef}
-use Rattle.uni_schema.proofs.Added.{IsAdded, added}
+use Rattle.uni_base.specs.Fields.{same}
+use Rattle.uni_schema.proofs.Added.{IsAdded, added, absent}
 use Rattle.uni_schema.proofs.Schemas.{with_type-kept}
 use Rattle.uni_schema.proofs.schema.Schema.add_type.Goals as goal
 
@@ -20,7 +21,7 @@ invariant_of-self-2 c =
     let new = new c in
     let room : length (values_of c.self.inside.types.entries) < 256 = rw (ap (λ (s : Declarations). length s.types) c.self.view_is) c.requires.room in (
       record { type_names = new.named; vertical_names = c.self.invariant.0.vertical_names },
-      subst (λ xs. IsSchema (whole c xs)) (sym new.values) (with_type-kept (whole c (values_of c.self.inside.types.entries)) c.args.type_def c.self.invariant.1 room (rw (ap (λ (s : Declarations). length s.verticals) c.self.view_is) c.requires.fits) c.requires.allows),
+      subst (λ xs. IsSchema (whole c xs)) (sym new.values) (with_type-kept (whole c (values_of c.self.inside.types.entries)) c.args.type_def c.self.invariant.1 room (rw (ap (λ (s : Declarations). length s.verticals) c.self.view_is) c.requires.fits) c.requires.allows c.requires.named (absent (same c.args.type_def.name) (type_names (whole c (values_of c.self.inside.types.entries))) (rw (ap (λ (s : Declarations). type_names s) c.self.view_is) c.requires.fresh))),
     )
 
 pub returns-clause-ok : goal.returns-clause-ok

@@ -1,8 +1,9 @@
 use Rattle.std.proofs.Common.{◌≡◌, ◌<◌, List, [], ◌∷◌, ◌++◌, length, arith, ap, sym, subst}
 use Rattle.std.specs.Map.{values_of}
-use Rattle.uni_schema.specs.Schema.{Declarations, IsSchema}
+use Rattle.uni_schema.specs.Schema.{Declarations, IsSchema, vertical_names}
 use Rattle.uni_schema.specs.declared.schema.VerticalDef.{VerticalDef}
-use Rattle.uni_schema.proofs.Added.{IsAdded, added}
+use Rattle.uni_base.specs.Fields.{same}
+use Rattle.uni_schema.proofs.Added.{IsAdded, added, absent}
 use Rattle.uni_schema.proofs.Schemas.{with_vertical-kept}
 use Rattle.uni_schema.proofs.schema.Schema.add_vertical.Goals as goal
 
@@ -20,7 +21,7 @@ invariant_of-self-2 c =
     let new = new c in
     let room : length (values_of c.self.inside.verticals.entries) < 16 = rw (ap (λ (s : Declarations). length s.verticals) c.self.view_is) c.requires.room in (
       record { vertical_names = new.named; type_names = c.self.invariant.0.type_names },
-      subst (λ xs. IsSchema (whole c xs)) (sym new.values) (with_vertical-kept (whole c (values_of c.self.inside.verticals.entries)) c.args.vertical c.self.invariant.1 room c.requires.fits),
+      subst (λ xs. IsSchema (whole c xs)) (sym new.values) (with_vertical-kept (whole c (values_of c.self.inside.verticals.entries)) c.args.vertical c.self.invariant.1 room c.requires.fits c.requires.named (absent (same c.args.vertical.name) (vertical_names (whole c (values_of c.self.inside.verticals.entries))) (rw (ap (λ (s : Declarations). vertical_names s) c.self.view_is) c.requires.fresh))),
     )
 
 pub returns-clause-ok : goal.returns-clause-ok
