@@ -3,6 +3,7 @@ ghost use Rattle.std.specs.Prelude.{◌≤◌};
 
 use crate::{HeaderReader, Origin, Owner, Schema, SchemaRefusal, Store, print_header};
 use std::alloc::Global;
+use std::process::Abort;
 use std::test::Fail;
 use uni_base::{EdgeRef, EntityId, Key, Limits, Word, cut_at, read_number};
 
@@ -42,14 +43,23 @@ fn row_of(row: &[u8]) -> Option<(&[u8], u128, u128)> {
     Some((text, read_number(line)?, read_number(code)?))
 }
 
-#[test]
-fn the_first_broken_rule_refuses(rt: HostRuntime) -> Result<(), Fail> {
-    for row in ROWS.split(|byte| *byte == b';') {
+// Further such headers.
+const MORE_ROWS: &[u8] =
+    b"unicorn 1|vertical user 1 0=2 4;unicorn 1|vertical user 99999999999999999999 1=2 4;unicorn 1|vertical user 999999999999999999999 1=2 1;unicorn 1|vertical aaaaaaaabbbbbbbbccccccccdddddddd 1 1|begin=0 0;unicorn 1|vertical aaaaaaaabbbbbbbbccccccccdddddddde 1 1=2 1;unicorn 1|vertical user 1 1|type user user user both index|begin=0 0;unicorn 1|vertical user 1 1|type shows user user both forward|deny shows=4 7;unicorn 1|vertical user 1 1|type blocked user user source index|deny blocked|deny blocked=5 7";
+
+fn refuses(rt: &impl Abort, alloc: Global, rows: &[u8]) -> Result<(), Fail> {
+    for row in rows.split(|byte| *byte == b';') {
         let (text, line, code) = row_of(row).ok_or("no row")?;
-        let answer = open(rt.alloc(), text)?.err().unwrap_or((0, 0));
+        let answer = open(alloc, text)?.err().unwrap_or((0, 0));
         assert_eq!(rt; (answer.0 as u128, answer.1 as u128), (line, code));
     }
     Ok(())
+}
+
+#[test]
+fn the_first_broken_rule_refuses(rt: HostRuntime) -> Result<(), Fail> {
+    refuses(&rt, rt.alloc(), ROWS)?;
+    refuses(&rt, rt.alloc(), MORE_ROWS)
 }
 
 // One line more than there may be of each kind, after so many that may be.
