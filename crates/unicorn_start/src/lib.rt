@@ -6,13 +6,12 @@ ghost use Rattle.std.specs.IoError.{error_kind};
 
 use first_round::{OpenGate, Status, TurnChooser, run};
 use std::alloc::Global;
-use std::env;
 use std::env::Env;
-use std::io;
 use std::io::{ErrorKind, Read, Write};
 use std::process::ExitCode;
 use std::sync::Wait;
 use std::thread::Threads;
+use std::{env, io};
 use uni_base::{StdSink, StdSource};
 
 /// Runs the program over its words, with a script from `input` and its answers to `output`, and says
