@@ -1,20 +1,16 @@
 -- Operands that are asked about a key, one after the other.
-use Rattle.std.proofs.Common.{◌≡◌, ℕ, zero, suc, ◌+◌, ◌<◌, ◌≤◌, Bool, true, false, not, ◌&&◌, ◌||◌, List, [], ◌∷◌, ◌++◌, Option, None, Some, refl, sym, ◌∙◌, ap, subst, arith, length, get_or, set, slice_get, take, drop, map}
-use Rattle.std.proofs.lemmas.List.{append-nil, drop_all, get_or-map, get_or-set_same, length-map, length-set, map_more}
-use Rattle.std.proofs.lemmas.List.Folds.{list_all-append, list_all_at}
+use Rattle.std.proofs.Common.{◌≡◌, ℕ, suc, ◌+◌, ◌<◌, ◌≤◌, ◌⊎◌, inl, inr, Bool, true, false, not, ◌&&◌, ◌||◌, List, [], ◌∷◌, Option, None, Some, refl, sym, ◌∙◌, ap, subst, arith, length, get_or, set, slice_get, drop, map, below_more}
+use Rattle.std.proofs.lemmas.Bool.{cases_lt}
+use Rattle.std.proofs.lemmas.List.{get_or-map, get_or-set_other, get_or-set_same, length-map, length-set, map-set}
+use Rattle.std.proofs.lemmas.List.Folds.{list_all_at}
+use Rattle.std.proofs.lemmas.List.Sums.{count_by-le-length, length-filter}
 use Rattle.std.specs.List.{list_all}
-use Rattle.std.specs.declared.cmp.Ordering.{Ordering}
-use Rattle.std.specs.declared.cmp.Ordering.TheVariants.{Less, Equal, Greater}
-use Rattle.std.specs.Ordering.{is_eq, is_ne}
 use Rattle.uni_base.specs.declared.entity.DocKey.{DocKey}
-use Rattle.uni_base.specs.RankOrder.{doc_cmp}
 use Rattle.uni_base.specs.Cursors.{is_before, IsRanked, keys_from}
-use Rattle.uni_base.specs.KeySets.{has_key, holders}
-use Rattle.uni_base.proofs.RankedLemmas.{and_true, has_key-keys_from, has_key-not_before, is_before_self, is_eq_self, keys_from_head_is}
-use Rattle.set_cursors.specs.Firsts.{is_first}
-use Rattle.set_cursors.specs.Leaps.{IsReached, IsAsked}
+use Rattle.uni_base.specs.KeySets.{has_key, united}
+use Rattle.uni_base.proofs.RankedLemmas.{has_key-keys_from, has_key-not_before, is_before_self, is_before_trans_left, is_eq_self, keys_from_head_is}
+use Rattle.set_cursors.specs.Leaps.{HasNoCommonBefore, IsAsked, IsMoved, IsReached}
 use Rattle.set_cursors.proofs.FirstKeys.{has_key-among}
-use Rattle.set_cursors.proofs.Moved.{as_many_by, at_old, length_moved, moved_more}
 
 -- what all pass, one passes
 pub all_pass : {X : Type 0} (p : X → Bool) (xs : List X) (i : ℕ) (d : X) → i < length xs → list_all p xs ≡ true → p (get_or xs i d) ≡ true
@@ -24,34 +20,10 @@ all_pass p xs i d within all = by (p (get_or xs i d)) refl
     by true e = refl
     by false e = absurd (let f = list_all_at p xs i d within e in cc)
 
--- the keys that are not before the one asked about stay
-holders_moved : (key k : DocKey) → is_before k key ≡ false → (lists : List (List DocKey)) (n : ℕ) → holders k (map (keys_from key) (take n lists) ++ drop n lists) ≡ holders k lists
-holders_moved key k p [] zero = refl
-holders_moved key k p [] (suc n) = refl
-holders_moved key k p (ks ∷ lists) zero = refl
-holders_moved key k p (ks ∷ lists) (suc n) =
-    cons_same (has_key (keys_from key ks) k) (has_key ks k) (holders k (map (keys_from key) (take n lists) ++ drop n lists)) (holders k lists)
-    (has_key-keys_from key ks k ∙ ap (λ b. has_key ks k && not b) p ∙ and_true (has_key ks k)) (holders_moved key k p lists n)
-  where
-    cons_same : (a b : Bool) (xs ys : List Bool) → a ≡ b → xs ≡ ys → a ∷ xs ≡ b ∷ ys
-    cons_same a b xs ys e f = cc
-
--- what an operand that was asked is at
-pub at_moved : (key : DocKey) (lists : List (List DocKey)) (n i : ℕ) → i < n → get_or (map (keys_from key) (take n lists) ++ drop n lists) i [] ≡ keys_from key (get_or lists i [])
-at_moved key [] n zero l = nothing n
-  where
-    nothing : (n : ℕ) → get_or (map (keys_from key) (take n []) ++ drop n []) 0 [] ≡ []
-    nothing zero = refl
-    nothing (suc n) = refl
-at_moved key [] (suc n) (suc i) l = refl
-at_moved key [] zero (suc i) l = absurd (omega arith)
-at_moved key (ks ∷ lists) zero i l = absurd (omega arith)
-at_moved key (ks ∷ lists) (suc n) zero l = refl
-at_moved key (ks ∷ lists) (suc n) (suc i) l = at_moved key lists n i (omega arith)
-
--- what was written at a place
-pub at_set : {C : Type 0} (view : C → List DocKey) (nows : List C) (i : ℕ) (new : C) → i < length nows → get_or (map view (set nows i new)) i [] ≡ view new
-at_set view nows i new within = get_or-map view (set nows i new) i new [] (omega (arith, length-set nows i new)) ∙ ap view (get_or-set_same nows i new new within)
+-- what each passes, all pass
+pub pass_all : {X : Type 0} (p : X → Bool) (xs : List X) (d : X) → ((i : ℕ) → i < length xs → p (get_or xs i d) ≡ true) → list_all p xs ≡ true
+pass_all p [] d each = refl
+pass_all p (x ∷ xs) d each = ap (λ b. b && list_all p xs) (each 0 (omega arith)) ∙ pass_all p xs d (λ i within. each (suc i) (omega arith))
 
 -- a list without a first key, and one with one
 pub none_first : (ks : List DocKey) → None ≡ slice_get ks 0 → ks ≡ []
@@ -62,116 +34,172 @@ pub some_first : (ks : List DocKey) (k : DocKey) → Some k ≡ slice_get ks 0 �
 some_first [] k e = cc
 some_first (x ∷ xs) k e = cc
 
--- a key that is left after a key is sought is not before it
-sought_not_before : (key k : DocKey) (old : List DocKey) → has_key (keys_from key old) k ≡ true → is_before k key ≡ false
-sought_not_before key k old has = by (has_key old k) (is_before k key) (sym (has_key-keys_from key old k) ∙ has)
+pub not_before_trans : (a b c : DocKey) → is_before b a ≡ false → is_before c b ≡ false → is_before c a ≡ false
+not_before_trans a b c p q = by (is_before c a) refl
   where
-    by : (a b : Bool) → (a && not b) ≡ true → b ≡ false
-    by true true e = absurd cc
-    by true false e = refl
-    by false b e = absurd cc
+    by : (r : Bool) → is_before c a ≡ r → r ≡ false
+    by true e = absurd (let f = is_before_trans_left b c a q e in cc)
+    by false e = refl
 
-module _ (key : DocKey) (olds news : List (List DocKey)) (n : ℕ) (moved : news ≡ map (keys_from key) (take n olds) ++ drop n olds) where
-  module _ (i : ℕ) (within : i < length olds) (old : List DocKey) (asked : get_or news i [] ≡ keys_from key old) where
-    as_many : length news ≡ length olds
-    as_many = ap length moved ∙ length_moved (keys_from key) olds n
+-- a list that has none but keys of another, and is no longer
+pub record IsPart (old new : List DocKey) : Type 0 where
+  pub no_longer : length new ≤ length old
+  pub had : (k : DocKey) → has_key new k ≡ true → has_key old k ≡ true
 
-    has_asked : (k : DocKey) → list_all (λ keys. has_key keys k) news ≡ true → has_key (keys_from key old) k ≡ true
-    has_asked k all = let c = as_many in ap (λ (ks : List DocKey). has_key ks k) (sym asked) ∙ all_pass (λ (keys : List DocKey). has_key keys k) news i [] (omega arith) all
+IsPart-from : (old new : List DocKey) (to : DocKey) → new ≡ keys_from to old → IsPart old new
+IsPart-from old new to is = subst (IsPart old) (sym is) part
+  where
+    left : (a b : Bool) → (a && b) ≡ true → a ≡ true
+    left true b e = refl
+    left false b e = absurd cc
 
-    base : (answer : Option DocKey) → (answer ≡ None → (k : DocKey) → list_all (λ keys. has_key keys k) news ≡ false) → ((at : DocKey) → answer ≡ Some at → IsReached key at news) → IsAsked key answer olds news
-    base answer ended reached = record {
-      count = as_many;
-      kept = λ k p. ap (holders k) moved ∙ holders_moved key k p olds n;
-      passed = λ k all. sought_not_before key k old (has_asked k all);
-      ended = ended;
-      reached = reached;
+    part : IsPart old (keys_from to old)
+    part = record {
+      no_longer = omega (arith, length-filter (λ k. not (is_before k to)) old, count_by-le-length (λ k. not (is_before k to)) old);
+      had = λ k has. left (has_key old k) (not (is_before k to)) (sym (has_key-keys_from to old k) ∙ has);
     }
 
-    -- an operand is at its end
-    pub asked_end : keys_from key old ≡ [] → IsAsked key None olds news
-    asked_end none = base None (λ _ k. by (list_all (λ keys. has_key keys k) news) k refl) (λ at e. absurd cc)
+IsPart-same : (old new : List DocKey) → new ≡ old → IsPart old new
+IsPart-same old new is = subst (IsPart old) (sym is) (record { no_longer = omega arith; had = λ k has. has })
+
+-- the operands before one were asked, the rest were not
+pub record Asking (asked latest : DocKey) (olds nows : List (List DocKey)) (n : ℕ) : Type 0 where
+  pub count : length nows ≡ length olds
+  pub late : is_before latest asked ≡ false
+  pub bounds : HasNoCommonBefore latest olds
+  pub among : 0 < n → has_key (united nows) latest ≡ true
+  pub done : (i : ℕ) → i < n → IsMoved asked latest (get_or olds i []) (get_or nows i [])
+  pub todo : (i : ℕ) → n ≤ i → get_or nows i [] ≡ get_or olds i []
+
+pub start_asking : (asked : DocKey) (lists : List (List DocKey)) → HasNoCommonBefore asked lists → Asking asked asked lists lists 0
+start_asking asked lists bounds = record {
+  count = refl;
+  late = is_before_self asked;
+  bounds = bounds;
+  among = λ some. absurd (omega arith);
+  done = λ i below. absurd (omega arith);
+  todo = λ i above. refl;
+}
+
+module _ (asked : DocKey) (answer : Option DocKey) (olds news : List (List DocKey)) (count : length news ≡ length olds) (part : (i : ℕ) → IsPart (get_or olds i []) (get_or news i []))
+    (ended : answer ≡ None → (k : DocKey) → list_all (λ keys. has_key keys k) olds ≡ false) (reached : (at : DocKey) → answer ≡ Some at → IsReached asked at olds news) where
+  answered : IsAsked asked answer olds news
+  answered = record {
+    count = count;
+    no_longer = λ i. (part i).no_longer;
+    ended = ended;
+    had = λ k all. pass_all (λ keys. has_key keys k) olds [] (λ i within. (part i).had k (all_pass (λ keys. has_key keys k) news i [] (omega arith) all));
+    reached = reached;
+  }
+
+-- all operands were asked
+pub asked_all : (asked latest : DocKey) (olds nows : List (List DocKey)) (n : ℕ) → 0 < length olds → length olds ≤ n → Asking asked latest olds nows n → IsAsked asked (Some latest) olds nows
+asked_all asked latest olds nows n some whole asking =
+    answered asked (Some latest) olds nows asking.count part (λ e. absurd cc) (λ k e. let s : latest ≡ k = cc in subst (λ (y : DocKey). IsReached asked y olds nows) s reached)
+  where
+    part : (i : ℕ) → IsPart (get_or olds i []) (get_or nows i [])
+    part i = by (cases_lt i n)
       where
-        by : (b : Bool) (k : DocKey) → list_all (λ keys. has_key keys k) news ≡ b → b ≡ false
-        by true k e = absurd (let f = ap (λ (ks : List DocKey). has_key ks k) (sym none) ∙ has_asked k e in cc)
-        by false k e = refl
+        by : (i < n) ⊎ (n ≤ i) → IsPart (get_or olds i []) (get_or nows i [])
+        by (inl below) = let m = asking.done i below in IsPart-from (get_or olds i []) (get_or nows i []) m.to m.moves
+        by (inr above) = IsPart-same (get_or olds i []) (get_or nows i []) (asking.todo i above)
 
-    reached_at : (at : DocKey) (rest : List DocKey) → keys_from key old ≡ at ∷ rest → IsRanked (keys_from key old) → (is_eq (doc_cmp at key) ≡ true → list_all (is_first key) news ≡ true) → IsReached key at news
-    reached_at at rest is ranked there = record {
-      not_before = keys_from_head_is key at old rest is;
-      is_among = has_key-among news i at (ap (λ (ks : List DocKey). has_key ks at) (asked ∙ is) ∙ ap (λ b. b || has_key rest at) (is_eq_self at));
-      bounds = λ k all. has_key-not_before at rest k (subst IsRanked is ranked) (ap (λ (ks : List DocKey). has_key ks k) (sym is) ∙ has_asked k all);
-      all_there = there;
-    }
+    reached : IsReached asked latest olds nows
+    reached = record { not_before = asking.late; is_among = asking.among (omega arith); bounds = asking.bounds; each_moved = λ i within. asking.done i (omega arith) }
 
-    -- an operand is at a later key
-    pub asked_later : (at : DocKey) (rest : List DocKey) → keys_from key old ≡ at ∷ rest → IsRanked (keys_from key old) → is_eq (doc_cmp at key) ≡ false → IsAsked key (Some at) olds news
-    asked_later at rest is ranked other =
-        base (Some at) (λ e. absurd cc)
-        (λ k e. let s : at ≡ k = cc in subst (λ (y : DocKey). IsReached key y news) s (reached_at at rest is ranked (λ f. absurd cc)))
+-- ---- one operand more
 
-    -- all operands are at the key
-    pub asked_all : list_all (is_first key) news ≡ true → IsAsked key (Some key) olds news
-    asked_all there =
-        base (Some key) (λ e. absurd cc) (λ k e. let s : key ≡ k = cc in subst (λ (y : DocKey). IsReached key y news) s reached)
-      where
-        begins : (ks : List DocKey) → is_first key ks ≡ true → has_key ks key ≡ true
-        begins [] e = absurd cc
-        begins (x ∷ xs) e = ap (λ b. b || has_key xs key) e
+module _ {C : Type 0} (view : C → List DocKey) (asked latest : DocKey) (ops nows : List C) (n : ℕ) (old new : C) (within : n < length ops) (asking : Asking asked latest (map view ops) (map view nows) n)
+    (is : old ≡ get_or nows n old) (moves : view new ≡ keys_from latest (view old)) where
+  abbrev olds : List (List DocKey)
+  olds = map view ops
 
-        reached : IsReached key key news
-        reached = record {
-          not_before = is_before_self key;
-          is_among = has_key-among news i key (begins (get_or news i []) (let c = as_many in all_pass (is_first key) news i [] (omega arith) there));
-          bounds = λ k all. sought_not_before key k old (has_asked k all);
-          all_there = λ _. there;
-        }
+  abbrev news : List (List DocKey)
+  news = map view (set nows n new)
 
-is_eq-is_ne : (o : Ordering) → is_eq o ≡ not (is_ne o)
-is_eq-is_ne Less = refl
-is_eq-is_ne Equal = refl
-is_eq-is_ne Greater = refl
+  as_many : length nows ≡ length ops
+  as_many = omega (arith, length-map nows view, length-map ops view, asking.count)
 
--- what a test that two keys differ says
-pub is_eq-from_ne : (o p : Ordering) (r : Bool) {b : Bool} → p ≡ o → r ≡ is_ne p → r ≡ b → is_eq o ≡ not b
-is_eq-from_ne o p r e f h = ap is_eq (sym e) ∙ is_eq-is_ne p ∙ ap not (sym f ∙ h)
+  was : view old ≡ get_or olds n []
+  was = let c = as_many in ap view is ∙ sym (get_or-map view nows n old [] (omega arith)) ∙ asking.todo n (omega arith)
 
--- ---- the loop over the operands
+  here : get_or news n [] ≡ keys_from latest (get_or olds n [])
+  here =
+      let c = as_many in
+      ap (λ (ls : List (List DocKey)). get_or ls n []) (map-set view nows n new)
+      ∙ get_or-set_same (map view nows) n (view new) [] (omega (arith, length-map nows view)) ∙ moves ∙ ap (keys_from latest) was
 
-module _ {C : Type 0} (view : C → List DocKey) (key : DocKey) (ops nows : List C) where
-  module _ (i : ℕ) (old new : C) (within : i < length ops) (before : map view nows ≡ map (keys_from key) (take i (map view ops)) ++ drop i (map view ops))
-      (is : old ≡ get_or nows i old) (moves : view new ≡ keys_from key (view old)) where
-    step_moved : map view (set nows i new) ≡ map (keys_from key) (take (i + 1) (map view ops)) ++ drop (i + 1) (map view ops)
-    step_moved = moved_more view (keys_from key) ops nows i old within before is new moves
+  here_new : get_or news n [] ≡ view new
+  here_new = here ∙ sym (moves ∙ ap (keys_from latest) was)
 
-    step_asked : get_or (map view (set nows i new)) i [] ≡ keys_from key (view old)
-    step_asked = let c = as_many_by view (keys_from key) ops nows i old within before is in at_set view nows i new (omega arith) ∙ moves
+  other : (i : ℕ) → (i ≡ n → ⊥) → get_or news i [] ≡ get_or (map view nows) i []
+  other i apart = ap (λ (ls : List (List DocKey)). get_or ls i []) (map-set view nows n new) ∙ get_or-set_other (map view nows) n i (view new) [] apart
 
-    step_within : i < length (map view ops)
-    step_within = omega (arith, length-map ops view)
+  counted : length news ≡ length olds
+  counted = omega (arith, as_many, length-map (set nows n new) view, length-set nows n new, length-map ops view)
 
-    pub step_end : None ≡ slice_get (view new) 0 → IsAsked key None (map view ops) (map view (set nows i new))
-    step_end e = asked_end key (map view ops) (map view (set nows i new)) (i + 1) step_moved i step_within (view old) step_asked (sym moves ∙ none_first (view new) e)
+  part : (i : ℕ) → IsPart (get_or olds i []) (get_or news i [])
+  part i = by (cases_lt i n) (cases_lt n i)
+    where
+      by : (i < n) ⊎ (n ≤ i) → (n < i) ⊎ (i ≤ n) → IsPart (get_or olds i []) (get_or news i [])
+      by (inl below) q = let m = asking.done i below in IsPart-from (get_or olds i []) (get_or news i []) m.to (other i (λ e. omega (arith, e)) ∙ m.moves)
+      by (inr above) (inl more) = IsPart-same (get_or olds i []) (get_or news i []) (other i (λ e. omega (arith, e)) ∙ asking.todo i above)
+      by (inr above) (inr less) = let e : n ≡ i = omega arith in subst (λ (j : ℕ). IsPart (get_or olds j []) (get_or news j [])) e (IsPart-from (get_or olds n []) (get_or news n []) latest here)
 
-    pub step_later : (at : DocKey) → Some at ≡ slice_get (view new) 0 → IsRanked (view new) → is_eq (doc_cmp at key) ≡ false → IsAsked key (Some at) (map view ops) (map view (set nows i new))
-    step_later at e ranked other =
-        asked_later key (map view ops) (map view (set nows i new)) (i + 1) step_moved i step_within (view old) step_asked at (drop 1 (view new))
-        (sym moves ∙ some_first (view new) at e) (subst IsRanked moves ranked) other
+  -- a common key is still there
+  left : (k : DocKey) → list_all (λ keys. has_key keys k) olds ≡ true → has_key (view new) k ≡ true
+  left k all =
+      ap (λ (ks : List DocKey). has_key ks k) (sym here_new ∙ here) ∙ has_key-keys_from latest (get_or olds n []) k
+      ∙ ap (λ b. b && not (is_before k latest)) (all_pass (λ keys. has_key keys k) olds n [] (omega (arith, length-map ops view)) all) ∙ ap not (asking.bounds k all)
 
-    pub step_there : (at : DocKey) → Some at ≡ slice_get (view new) 0 → is_eq (doc_cmp at key) ≡ true → list_all (is_first key) (map (keys_from key) (take i (map view ops))) ≡ true
-        → list_all (is_first key) (map (keys_from key) (take (i + 1) (map view ops))) ≡ true
-    step_there at e here there =
-        let lists = map view ops in
-        let last : is_first key (keys_from key (get_or lists i [])) ≡ true =
-        ap (λ (ks : List DocKey). is_first key (keys_from key ks)) (sym (at_old view (keys_from key) ops nows i old within before is []))
-        ∙ ap (is_first key) (sym moves ∙ some_first (view new) at e) ∙ here in
-        ap (list_all (is_first key)) (map_more (keys_from key) lists i [] step_within)
-        ∙ list_all-append (is_first key) (map (keys_from key) (take i lists)) (keys_from key (get_or lists i []) ∷ [])
-        ∙ ap (λ b. b && (is_first key (keys_from key (get_or lists i [])) && true)) there ∙ ap (λ b. b && true) last
+  -- it is at its end
+  pub step_end : None ≡ slice_get (view new) 0 → IsAsked asked None (map view ops) (map view (set nows n new))
+  step_end e = answered asked None olds news counted part (λ _ k. none k (list_all (λ keys. has_key keys k) olds) refl) (λ at f. absurd cc)
+    where
+      none : (k : DocKey) (b : Bool) → list_all (λ keys. has_key keys k) olds ≡ b → b ≡ false
+      none k true f = absurd (let g = ap (λ (ks : List DocKey). has_key ks k) (sym (none_first (view new) e)) ∙ left k f in cc)
+      none k false f = refl
 
-  pub step_all : (n : ℕ) → 0 < length ops → length ops ≤ n → map view nows ≡ map (keys_from key) (take n (map view ops)) ++ drop n (map view ops)
-      → list_all (is_first key) (map (keys_from key) (take n (map view ops))) ≡ true → IsAsked key (Some key) (map view ops) (map view nows)
-  step_all n some all before there =
-      asked_all key (map view ops) (map view nows) n before 0 (omega (arith, length-map ops view)) (get_or (map view ops) 0 [])
-      (ap (λ (ls : List (List DocKey)). get_or ls 0 []) before ∙ at_moved key (map view ops) n 0 (omega arith))
-      (ap (list_all (is_first key)) (before ∙ ap (λ (ls : List (List DocKey)). map (keys_from key) (take n (map view ops)) ++ ls) (drop_all n (map view ops) (omega (arith, length-map ops view))) ∙ append-nil (map (keys_from key) (take n (map view ops)))) ∙ there)
+  -- or at a key
+  pub step_on : (at : DocKey) → Some at ≡ slice_get (view new) 0 → IsRanked (view new) → Asking asked at (map view ops) (map view (set nows n new)) (n + 1)
+  step_on at e ranked = record {
+    count = counted;
+    late = not_before_trans asked latest at asking.late later;
+    bounds = λ k all. has_key-not_before at (drop 1 (view new)) k (subst IsRanked starts ranked) (ap (λ (ks : List DocKey). has_key ks k) (sym starts) ∙ left k all);
+    among = λ some. has_key-among news n at (ap (λ (ks : List DocKey). has_key ks at) (here_new ∙ starts) ∙ ap (λ b. b || has_key (drop 1 (view new)) at) (is_eq_self at));
+    done = below_more _ _ before now;
+    todo = λ i above. other i (λ f. omega (arith, f)) ∙ asking.todo i (omega arith);
+  }
+    where
+      starts : view new ≡ at ∷ drop 1 (view new)
+      starts = some_first (view new) at e
+
+      later : is_before at latest ≡ false
+      later = keys_from_head_is latest at (view old) (drop 1 (view new)) (sym moves ∙ starts)
+
+      now : IsMoved asked at (get_or olds n []) (get_or news n [])
+      now = record {
+        to = latest;
+        at = at;
+        not_before = asking.late;
+        not_after = later;
+        moves = here;
+        stands = ap (λ (ks : List DocKey). slice_get ks 0) here_new ∙ sym e;
+        within = is_before_self at;
+        ranked = subst IsRanked (sym here_new) ranked;
+      }
+
+      before : (i : ℕ) → i < n → IsMoved asked at (get_or olds i []) (get_or news i [])
+      before i below =
+          let m = asking.done i below in
+          let same = other i (λ f. omega (arith, f)) in
+          record {
+            to = m.to;
+            at = m.at;
+            not_before = m.not_before;
+            not_after = not_before_trans m.to latest at m.not_after later;
+            moves = same ∙ m.moves;
+            stands = ap (λ (ks : List DocKey). slice_get ks 0) same ∙ m.stands;
+            within = not_before_trans m.at latest at m.within later;
+            ranked = subst IsRanked (sym same) m.ranked;
+          }

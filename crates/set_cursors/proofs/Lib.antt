@@ -5,3 +5,4 @@ mod Filtered
 mod FirstKeys
 mod Moved
 mod Shared
+mod Weights

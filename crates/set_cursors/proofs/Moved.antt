@@ -1,7 +1,16 @@
 -- Loops that move one operand after the other.
-use Rattle.std.proofs.Common.{◌≡◌, ℕ, zero, suc, ◌+◌, ◌<◌, List, [], ◌∷◌, ◌++◌, refl, sym, ◌∙◌, ap, arith, length, get_or, take, drop, set, map}
-use Rattle.std.proofs.lemmas.List.{get_or-map, length-map, map-set}
+use Rattle.std.proofs.Common.{◌≡◌, ℕ, zero, suc, ◌+◌, ◌<◌, ◌⊎◌, inl, inr, Bool, false, List, [], ◌∷◌, ◌++◌, refl, sym, ◌∙◌, ap, arith, length, get_or, take, drop, set, slice_get, map}
+use Rattle.std.proofs.lemmas.Bool.{cases_eq}
+use Rattle.std.proofs.lemmas.List.{get_or-map, length-map, map-set, set-get_or}
 use Rattle.std.proofs.lemmas.List.Edits.{map_over_more}
+
+slice_get-set_other : {X : Type 0} (xs : List X) (i j : ℕ) (y : X) → (j ≡ i → ⊥) → slice_get (set xs i y) j ≡ slice_get xs j
+slice_get-set_other [] zero j y apart = refl
+slice_get-set_other [] (suc i) j y apart = refl
+slice_get-set_other (x ∷ xs) zero zero y apart = absurd (apart refl)
+slice_get-set_other (x ∷ xs) zero (suc j) y apart = refl
+slice_get-set_other (x ∷ xs) (suc i) zero y apart = refl
+slice_get-set_other (x ∷ xs) (suc i) (suc j) y apart = slice_get-set_other xs i j y (λ e. apart (ap suc e))
 
 -- what such a loop has not come to yet is as it was
 untouched : {X : Type 0} (f : X → X) (xs : List X) (i : ℕ) (d : X) → get_or (map f (take i xs) ++ drop i xs) i d ≡ get_or xs i d
@@ -35,3 +44,14 @@ module _ {C X : Type 0} (view : C → X) (f : X → X) (olds nows : List C) (i :
       ∙ ap (λ (x : X). set (map view nows) i x) moves
       ∙ map_over_more f (map view olds) (map view nows) i (view old) (omega (arith, length-map olds view)) before
       (ap view is ∙ sym (get_or-map view nows i old (view old) (omega arith)))
+
+  -- the operands that a test leaves out stay
+  pub stays_more : (test : X → Bool) (new : C) → (test (view old) ≡ false → new ≡ old) → (d : X) → ((j : ℕ) → test (get_or (map view olds) j d) ≡ false → slice_get nows j ≡ slice_get olds j)
+      → (j : ℕ) → test (get_or (map view olds) j d) ≡ false → slice_get (set nows i new) j ≡ slice_get olds j
+  stays_more test new same d stays j fails = by (cases_eq j i)
+    where
+      by : (j ≡ i) ⊎ (j ≡ i → ⊥) → slice_get (set nows i new) j ≡ slice_get olds j
+      by (inl e) =
+          let here = ap test (at_old d) ∙ ap (λ (k : ℕ). test (get_or (map view olds) k d)) (sym e) ∙ fails in
+          ap (λ (xs : List C). slice_get xs j) (ap (set nows i) (same here ∙ is) ∙ set-get_or nows i old) ∙ stays j fails
+      by (inr apart) = slice_get-set_other nows i j new apart ∙ stays j fails

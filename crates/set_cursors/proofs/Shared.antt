@@ -1,17 +1,17 @@
 -- Operands of which some have passed keys that not all have.
-use Rattle.std.proofs.Common.{◌≡◌, ◌<◌, ◌≤◌, Bool, true, false, not, ◌&&◌, ◌||◌, cond, List, [], ◌∷◌, Option, None, Some, refl, sym, ◌∙◌, ap, subst, arith, length, get_or, slice_get, drop, map}
+use Rattle.std.proofs.Common.{◌≡◌, ℕ, suc, ◌<◌, ◌≤◌, Bool, true, false, not, ◌&&◌, ◌||◌, cond, List, [], ◌∷◌, Option, None, Some, refl, sym, ◌∙◌, ap, subst, arith, length, get_or, slice_get, drop, map}
 use Rattle.std.specs.List.{list_any, list_all}
 use Rattle.std.specs.Ordering.{is_eq}
 use Rattle.uni_base.specs.declared.entity.DocKey.{DocKey}
 use Rattle.uni_base.specs.RankOrder.{doc_cmp}
 use Rattle.uni_base.specs.Cursors.{is_before, IsRanked, keys_from}
 use Rattle.uni_base.specs.KeySets.{has_key, holders, united, KeepsKeys}
-use Rattle.uni_base.proofs.RankedLemmas.{and_false, has_key-filter, has_key-keys_from, has_key-not_before, is_before_self, is_before_trans_right, is_eq_same, is_eq_self, IsRanked-filter, IsRanked-keys_from, least_is_head, same_from_is_eq, same_from_keys, Standing, before, same, after, standing}
+use Rattle.uni_base.proofs.RankedLemmas.{and_false, and_true, has_key-filter, has_key-keys_from, has_key-not_before, is_before_self, is_before_trans_right, is_eq_same, is_eq_self, keys_from_head_is, same_from_neither, IsRanked-filter, IsRanked-keys_from, least_is_head, same_from_is_eq, same_from_keys, Standing, before, same, after, standing}
 use Rattle.uni_base.proofs.UnitedLemmas.{has_key-united, IsRanked-united}
 use Rattle.set_cursors.specs.Filters.{common}
 use Rattle.set_cursors.specs.Firsts.{is_first}
-use Rattle.set_cursors.specs.Leaps.{IsAsked, IsReached, StandsAt}
-use Rattle.set_cursors.proofs.Asked.{all_pass, none_first, some_first}
+use Rattle.set_cursors.specs.Leaps.{HasNoCommonBefore, IsAsked, IsReached, StandsAt}
+use Rattle.set_cursors.proofs.Asked.{all_pass, none_first, not_before_trans, pass_all, some_first}
 use Rattle.set_cursors.proofs.FirstKeys.{has_key-among}
 use Rattle.std.proofs.lemmas.List.{length-map}
 
@@ -102,40 +102,76 @@ stands_nowhere lists none = record { first_is = sym (ap (λ (ks : List DocKey). 
 
 -- ---- after the operands are asked
 
+pub later_from : (key at : DocKey) → is_before at key ≡ false → is_eq (doc_cmp at key) ≡ false → is_before key at ≡ true
+later_from key at not_before other = by (standing key at)
+  where
+    by : Standing key at → is_before key at ≡ true
+    by (before p _ _ _) = p
+    by (same e) = absurd (let f = is_eq_same at key (sym e) in cc)
+    by (after p _ _ _) = absurd (let f = not_before in cc)
+
+holders_from : (k : DocKey) (olds news : List (List DocKey)) → length news ≡ length olds → ((i : ℕ) → i < length olds → has_key (get_or news i []) k ≡ has_key (get_or olds i []) k) → holders k news ≡ holders k olds
+holders_from k [] [] count each = refl
+holders_from k [] (y ∷ ys) count each = absurd (omega arith)
+holders_from k (x ∷ xs) [] count each = absurd (omega arith)
+holders_from k (x ∷ xs) (y ∷ ys) count each =
+    let first = each 0 (omega arith) in
+    let rest = holders_from k xs ys (omega arith) (λ i within. each (suc i) (omega arith)) in
+    cc
+
+-- keys that are not before the one that was reached stay
+reached_holders : (key at : DocKey) (olds news : List (List DocKey)) → length news ≡ length olds → IsReached key at olds news → (k : DocKey) → is_before k at ≡ false → holders k news ≡ holders k olds
+reached_holders key at olds news count reached k late = holders_from k olds news count each
+  where
+    each : (i : ℕ) → i < length olds → has_key (get_or news i []) k ≡ has_key (get_or olds i []) k
+    each i within =
+        let m = reached.each_moved i within in
+        ap (λ (ks : List DocKey). has_key ks k) m.moves ∙ has_key-keys_from m.to (get_or olds i []) k
+        ∙ ap (λ b. has_key (get_or olds i []) k && not b) (not_before_trans m.to at k m.not_after late) ∙ and_true (has_key (get_or olds i []) k)
+
 module _ (key : DocKey) (answer : Option DocKey) (mids news : List (List DocKey)) (asked : IsAsked key answer mids news) where
-  pub asked_keeps : ((k : DocKey) → all_have k mids ≡ true → is_before k key ≡ false) → KeepsShared mids news
-  asked_keeps bounds = record {
-    count = asked.count;
-    olds_keep = λ k all. asked.kept k (bounds k all);
-    news_had = λ k all. asked.kept k (asked.passed k all);
-  }
+  -- what all have stays, and where there is no answer nothing is that all have
+  pub asked_keeps : KeepsShared mids news
+  asked_keeps = record { count = asked.count; olds_keep = keep; news_had = λ k all. keep k (asked.had k all) }
+    where
+      keep : (k : DocKey) → all_have k mids ≡ true → holders k news ≡ holders k mids
+      keep k all = by answer refl
+        where
+          by : (o : Option DocKey) → answer ≡ o → holders k news ≡ holders k mids
+          by None e = absurd (let f = asked.ended e k in cc)
+          by (Some at) e = let r = asked.reached at e in reached_holders key at mids news asked.count r k (r.bounds k all)
+
+  pub asked_bounds : (at : DocKey) → answer ≡ Some at → HasNoCommonBefore at news
+  asked_bounds at e = λ k all. (asked.reached at e).bounds k (asked.had k all)
+
+  pub asked_ended : answer ≡ None → StandsAt None news
+  asked_ended e = stands_nowhere news (λ k. by k (all_have k news) refl)
+    where
+      by : (k : DocKey) (b : Bool) → all_have k news ≡ b → b ≡ false
+      by k true all = absurd (let f = asked.ended e k in let g = asked.had k all in cc)
+      by k false all = refl
 
   -- a later key is nearer to the end
-  pub asked_nearer : (at : DocKey) → is_before at key ≡ false → is_eq (doc_cmp at key) ≡ false → has_key (united mids) key ≡ true
+  pub asked_nearer : (at : DocKey) → answer ≡ Some at → is_eq (doc_cmp at key) ≡ false → has_key (united mids) key ≡ true
       → length (keys_from at (united news)) < length (keys_from key (united mids))
-  asked_nearer at not_before other among =
+  asked_nearer at answers other among =
       subst (λ (ks : List DocKey). length ks < length (keys_from key (united mids))) (sym left) (shorter (united mids) among)
     where
       later : is_before key at ≡ true
-      later = by (standing key at)
-        where
-          by : Standing key at → is_before key at ≡ true
-          by (before p _ _ _) = p
-          by (same e) = absurd (let f = is_eq_same at key (sym e) in cc)
-          by (after p _ _ _) = absurd cc
+      later = later_from key at (asked.reached at answers).not_before other
 
       goes_on : (k : DocKey) → is_before k at ≡ false → is_before k key ≡ false
       goes_on k p = by (is_before k key) refl
         where
           by : (b : Bool) → is_before k key ≡ b → b ≡ false
-          by true e = absurd (let f = is_before_trans_right k key at e not_before in cc)
+          by true e = absurd (let f = is_before_trans_right k key at e (asked.reached at answers).not_before in cc)
           by false e = refl
 
       same_from : (k : DocKey) (b : Bool) → is_before k at ≡ b → (has_key (united news) k && not (is_before k at)) ≡ (has_key (united mids) k && not (is_before k at))
       same_from k true e =
           ap (λ c. has_key (united news) k && not c) e ∙ and_false (has_key (united news) k) ∙ sym (ap (λ c. has_key (united mids) k && not c) e ∙ and_false (has_key (united mids) k))
       same_from k false e =
-          ap (λ c. c && not (is_before k at)) (has_key-holders k news ∙ ap (list_any (λ b. b)) (asked.kept k (goes_on k e)) ∙ sym (has_key-holders k mids))
+          ap (λ c. c && not (is_before k at)) (has_key-holders k news ∙ ap (list_any (λ b. b)) (reached_holders key at mids news asked.count (asked.reached at answers) k e) ∙ sym (has_key-holders k mids))
 
       left : keys_from at (united news) ≡ keys_from at (united mids)
       left =
@@ -170,40 +206,43 @@ module _ (key : DocKey) (answer : Option DocKey) (mids news : List (List DocKey)
           by false true false e f s h l m = absurd (let g = goes_on x e in cc)
           by false false false e f s h l m = omega (arith, m h)
 
--- all operands are at the key that was reached
-pub stands_there : (key at : DocKey) (lists : List (List DocKey)) → IsReached key at lists → is_eq (doc_cmp at key) ≡ true → StandsAt (Some at) lists
-stands_there key at lists reached here = record {
-  first_is = sym (least_is_head (common lists) at (IsRanked-common lists) has (λ x h. reached.bounds x (common_all lists x h)));
-  all_there = λ k e. let s : key ≡ k = sym is ∙ inside e in subst (λ (y : DocKey). list_all (is_first y) lists ≡ true) s there;
+-- all operands are at the key, where no later one was reached
+pub stands_there : (key at : DocKey) (olds news : List (List DocKey)) → IsAsked key (Some at) olds news → is_eq (doc_cmp at key) ≡ true → 0 < length olds → StandsAt (Some at) news
+stands_there key at olds news asked here some = record {
+  first_is = sym (least_is_head (common news) at (IsRanked-common news) has (λ x h. asked_bounds key (Some at) olds news asked at refl x (common_all news x h)));
+  all_there = λ k e. let s : at ≡ k = inside e in subst (λ (y : DocKey). list_all (is_first y) news ≡ true) s there;
 }
   where
-    is : at ≡ key
-    is = same_from_is_eq at key here
-
-    there : list_all (is_first key) lists ≡ true
-    there = reached.all_there here
-
     inside : {k : DocKey} → Some at ≡ Some k → at ≡ k
     inside e = cc
 
-    begins : (ks : List DocKey) → is_first key ks ≡ true → has_key ks key ≡ true
-    begins [] e = absurd cc
-    begins (x ∷ xs) e = ap (λ b. b || has_key xs key) e
+    is : at ≡ key
+    is = same_from_is_eq at key here
 
-    left_true : (a b : Bool) → (a && b) ≡ true → (a ≡ true) × (b ≡ true)
-    left_true true b e = (refl, e)
-    left_true false b e = absurd cc
+    reached : IsReached key at olds news
+    reached = asked.reached at refl
 
-    all : (lists : List (List DocKey)) → list_all (is_first key) lists ≡ true → all_have key lists ≡ true
-    all [] e = refl
-    all (ks ∷ lists) e =
-        let both = left_true (is_first key ks) (list_all (is_first key) lists) e in
-        ap (λ b. b && all_have key lists) (begins ks both.0) ∙ all lists both.1
+    begins : (a : DocKey) (ks rest : List DocKey) → ks ≡ a ∷ rest → a ≡ at → is_first at ks ≡ true
+    begins a ks rest e f = ap (is_first at) e ∙ is_eq_same a at f
 
-    has : has_key (common lists) at ≡ true
+    at_it : (i : ℕ) → i < length news → is_first at (get_or news i []) ≡ true
+    at_it i within =
+        let m = reached.each_moved i (omega (arith, asked.count)) in
+        let starts = some_first (get_or news i []) m.at (sym m.stands) in
+        let late = not_before_trans key m.to m.at m.not_before (keys_from_head_is m.to m.at (get_or olds i []) (drop 1 (get_or news i [])) (sym m.moves ∙ starts)) in
+        begins m.at (get_or news i []) (drop 1 (get_or news i [])) starts (same_from_neither m.at at (subst (λ (y : DocKey). is_before m.at y ≡ false) (sym is) late) m.within)
+
+    there : list_all (is_first at) news ≡ true
+    there = pass_all (is_first at) news [] at_it
+
+    has_at : (ks : List DocKey) → is_first at ks ≡ true → has_key ks at ≡ true
+    has_at [] e = absurd cc
+    has_at (x ∷ xs) e = ap (λ b. b || has_key xs at) e
+
+    has : has_key (common news) at ≡ true
     has =
-        has_key-common lists at ∙ ap (λ b. b && all_have at lists) reached.is_among
-        ∙ subst (λ (y : DocKey). all_have y lists ≡ true) (sym is) (all lists there)
+        has_key-common news at ∙ ap (λ b. b && all_have at news) reached.is_among
+        ∙ pass_all (λ keys. has_key keys at) news [] (λ i within. has_at (get_or news i []) (at_it i within))
 
 -- ---- the first operand's key is the first that is asked about
 
@@ -236,16 +275,3 @@ module _ {C : Type 0} (view : C → List DocKey) (ops : List C) (x : C) (first :
   start_among key e =
       has_key-among (map view ops) 0 key
       (ap (λ (ks : List DocKey). has_key ks key) ((start_list ops first).0 ∙ some_first (view x) key e) ∙ ap (λ b. b || has_key (drop 1 (view x)) key) (is_eq_self key))
-
--- ---- the loop over the keys that are asked about
-
-module _ (inits mids news : List (List DocKey)) (key : DocKey) (answer : Option DocKey) (keeps : KeepsShared inits mids)
-    (bounds : (k : DocKey) → all_have k mids ≡ true → is_before k key ≡ false) (asked : IsAsked key answer mids news) where
-  pub turn_keeps : KeepsShared inits news
-  turn_keeps = KeepsShared_trans inits mids news keeps (asked_keeps key answer mids news asked bounds)
-
-  pub turn_common : common news ≡ common inits
-  turn_common = common_same inits news turn_keeps
-
-  pub turn_operands : KeepsKeys (common news) inits news
-  turn_operands = KeepsKeys-shared inits news turn_keeps

@@ -1,11 +1,9 @@
 -- How a cursor over the common keys of its operands leaps.
-use Rattle.std.specs.Prelude.{◌≡◌, true, false, Option, None, Some, List, length, slice_get}
+use Rattle.std.specs.Prelude.{◌≡◌, ◌<◌, ◌≤◌, ℕ, Bool, true, false, Option, None, Some, List, [], ◌∷◌, filter, length, slice_get, slice_index_or}
 use Rattle.std.specs.List.{list_all}
-use Rattle.std.specs.Ordering.{is_eq}
 use Rattle.uni_base.specs.declared.entity.DocKey.{DocKey}
-use Rattle.uni_base.specs.RankOrder.{doc_cmp}
-use Rattle.uni_base.specs.Cursors.{is_before}
-use Rattle.uni_base.specs.KeySets.{has_key, holders, united}
+use Rattle.uni_base.specs.Cursors.{is_before, IsRanked, keys_from}
+use Rattle.uni_base.specs.KeySets.{has_key, united, KeepsKeys}
 use Rattle.set_cursors.specs.Filters.{common}
 use Rattle.set_cursors.specs.Firsts.{is_first}
 
@@ -14,19 +12,44 @@ pub record StandsAt (first : Option DocKey) (lists : List (List DocKey)) : Type 
   pub first_is : first ≡ slice_get (common lists) 0
   pub all_there : (k : DocKey) → first ≡ Some k → list_all (is_first k) lists ≡ true
 
--- the operand asked last is at a key that is not before the one that was asked about: no common key is
--- before it, and where it is that one all operands are at it
-pub record IsReached (asked at : DocKey) (lists : List (List DocKey)) : Type 0 where
-  pub not_before : is_before at asked ≡ false
-  pub is_among : has_key (united lists) at ≡ true
-  pub bounds : (k : DocKey) → list_all (λ keys. has_key keys k) lists ≡ true → is_before k at ≡ false
-  pub all_there : is_eq (doc_cmp at asked) ≡ true → list_all (is_first asked) lists ≡ true
+-- no key that all lists have comes before one
+abbrev pub HasNoCommonBefore : DocKey → List (List DocKey) → Type 0
+HasNoCommonBefore key lists = (k : DocKey) → list_all (λ keys. has_key keys k) lists ≡ true → is_before k key ≡ false
 
--- operands are asked about a key: each keeps what is not before it, and a key that all still have is not
--- before it; there is no answer only where they have no common key
+-- an operand was moved to some key from the one that was asked about to the one that was reached, and is
+-- at none after it
+pub record IsMoved (asked reached : DocKey) (old new : List DocKey) : Type 0 where
+  pub to : DocKey
+  pub at : DocKey
+  pub not_before : is_before to asked ≡ false
+  pub not_after : is_before reached to ≡ false
+  pub moves : new ≡ keys_from to old
+  pub stands : slice_get new 0 ≡ Some at
+  pub within : is_before reached at ≡ false
+  pub ranked : IsRanked new
+
+-- each operand was so moved; some operand has the key that was reached, and no common key comes before it
+pub record IsReached (asked at : DocKey) (olds news : List (List DocKey)) : Type 0 where
+  pub not_before : is_before at asked ≡ false
+  pub is_among : has_key (united news) at ≡ true
+  pub bounds : HasNoCommonBefore at olds
+  pub each_moved : (i : ℕ) → i < length olds → IsMoved asked at (slice_index_or olds i []) (slice_index_or news i [])
+
+-- operands are asked about a key: none gets more keys, and there is no answer only where they have no
+-- common key
 pub record IsAsked (asked : DocKey) (answer : Option DocKey) (olds news : List (List DocKey)) : Type 0 where
   pub count : length news ≡ length olds
-  pub kept : (k : DocKey) → is_before k asked ≡ false → holders k news ≡ holders k olds
-  pub passed : (k : DocKey) → list_all (λ keys. has_key keys k) news ≡ true → is_before k asked ≡ false
-  pub ended : answer ≡ None → (k : DocKey) → list_all (λ keys. has_key keys k) news ≡ false
-  pub reached : (at : DocKey) → answer ≡ Some at → IsReached asked at news
+  pub no_longer : (i : ℕ) → length (slice_index_or news i []) ≤ length (slice_index_or olds i [])
+  pub ended : answer ≡ None → (k : DocKey) → list_all (λ keys. has_key keys k) olds ≡ false
+  pub had : (k : DocKey) → list_all (λ keys. has_key keys k) news ≡ true → list_all (λ keys. has_key keys k) olds ≡ true
+  pub reached : (at : DocKey) → answer ≡ Some at → IsReached asked at olds news
+
+-- operands have leapt: their common keys are those that were to be left, and each keeps those that it had
+pub record HasLeapt (left : List DocKey) (olds news : List (List DocKey)) : Type 0 where
+  pub keys : common news ≡ left
+  pub operands : KeepsKeys left olds news
+
+-- the first list has those of its keys left that pass a test, and the others have all of theirs
+abbrev pub first_filtered : (DocKey → Bool) → List (List DocKey) → List (List DocKey)
+first_filtered p [] = []
+first_filtered p (keys ∷ lists) = filter p keys ∷ lists

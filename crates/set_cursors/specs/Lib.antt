@@ -2,3 +2,4 @@ pub mod Differences
 pub mod Filters
 pub mod Firsts
 pub mod Leaps
+pub mod Moves

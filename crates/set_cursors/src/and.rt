@@ -1,16 +1,19 @@
-ghost use Rattle.std.specs.Prelude.{◌≡◌, ◌<◌, List, [], drop, length, map, slice_get, slice_index_or, Some};
+ghost use Rattle.std.specs.Prelude.{◌≡◌, ◌+◌, ◌<◌, List, [], drop, length, map, slice_get, slice_index_or, Some};
 ghost use Rattle.std.specs.Bool.{OnTrue};
 ghost use Rattle.set_cursors.specs.Filters.{common};
+ghost use Rattle.set_cursors.specs.Leaps.{HasLeapt};
+ghost use Rattle.set_cursors.specs.Moves.{AreEnough, AreFew};
 ghost use Rattle.uni_base.specs.Cursors.{IsRanked, keys_from};
 ghost use Rattle.uni_base.specs.KeySets.{has_first, KeepsKeys};
 
-use crate::leap::leap;
-use crate::operands::{is_at, pass_all, seek_all};
-use std::marker::Model;
-use uni_base::{DocCursor, DocKey};
+use crate::leap::{leap, pass_first, seek_first};
+use crate::operands::is_at;
+use std::marker::{Brand, Model};
+use std::sync::ledger::{Blank, Ledger};
+use uni_base::{DocCursor, DocKey, Steps};
 
-/// A cursor over the keys that all operands have. Contracts see it as its operands. An operand that
-/// lags is moved by a seek; each is sought at most once for each key that some operand is asked about.
+/// A cursor over the keys that all operands have. Contracts see it as its operands. A step steps the first
+/// operand; else operands are moved by seeks alone, each once for each key that is tried.
 #[derive(Drop)]
 pub struct AndCursor<C: DocCursor> {
     operands: Vec<C>,
@@ -37,8 +40,27 @@ impl<C: DocCursor> AndCursor<C> {
         ensures operands { let olds = map C.remaining operands.items in let news = map C.remaining result in
             KeepsKeys (common news) olds news }
     {
+        AndCursor::new_over::<Brand>(operands, Blank::new(1))
+    }
+
+    fn new_over<L: Ledger>(operands: Vec<C>, blank: Blank) -> AndCursor<C>
+        requires name { blank.name ≡ L.name }
+        requires parts { (blank.parts ≡ L.parts) × (0 < blank.parts) }
+        ensures { let olds = map C.remaining operands.items in HasLeapt (common olds) olds (map C.remaining result) }
+    {
+        AndCursor::new_counted(operands, &mut Steps::<L>::new(blank))
+    }
+
+    /// As `new`, and counts each seek of an operand as one step.
+    pub fn new_counted<L: Ledger>(operands: Vec<C>, moves: &mut Steps<L>) -> AndCursor<C>
+        ensures keys { common (map C.remaining result) ≡ common (map C.remaining operands.items) }
+        ensures operands { let olds = map C.remaining operands.items in let news = map C.remaining result in
+            KeepsKeys (common news) olds news }
+        ensures few { AreFew moves.old moves.new (map C.remaining operands.items) (map C.remaining result) }
+        ensures enough { AreEnough moves.old moves.new (length operands.items) (common (map C.remaining result)) }
+    {
         let mut operands = operands;
-        let first = leap(&mut operands);
+        let first = leap(&mut operands, moves);
         AndCursor { operands, first }
     }
 
@@ -63,6 +85,53 @@ impl<C: DocCursor> AndCursor<C> {
     {
         &self.operands[i]
     }
+
+    /// As `step`, and counts each step and each seek of an operand as one step. There is one move, and then
+    /// no more than the operand that passes the fewest keys allows.
+    pub fn step_counted<L: Ledger>(&mut self, moves: &mut Steps<L>)
+        ensures after { let olds = map C.remaining self.old in let news = map C.remaining self.new in
+            common news ≡ drop 1 (common olds) }
+        ensures operands { let olds = map C.remaining self.old in let news = map C.remaining self.new in
+            KeepsKeys (common news) olds news }
+        ensures few { AreFew (moves.old + 1) moves.new (map C.remaining self.old) (map C.remaining self.new) }
+        ensures enough { AreEnough (moves.old + 1) moves.new (length self.old) (common (map C.remaining self.new)) }
+    {
+        if let Some(key) = self.first {
+            pass_first(&mut self.operands, &key, moves);
+            self.first = leap(&mut self.operands, moves);
+        }
+    }
+
+    fn step_over<L: Ledger>(&mut self, blank: Blank)
+        requires name { blank.name ≡ L.name }
+        requires parts { (blank.parts ≡ L.parts) × (0 < blank.parts) }
+        ensures { let olds = map C.remaining self.old in HasLeapt (drop 1 (common olds)) olds (map C.remaining self.new) }
+    {
+        self.step_counted(&mut Steps::<L>::new(blank));
+    }
+
+    /// As `seek`, and counts each seek of an operand as one step. There is one move, and then no more than the
+    /// operand that passes the fewest keys allows.
+    pub fn seek_counted<L: Ledger>(&mut self, from: DocKey, moves: &mut Steps<L>)
+        ensures after { let olds = map C.remaining self.old in let news = map C.remaining self.new in
+            common news ≡ keys_from from (common olds) }
+        ensures operands { let olds = map C.remaining self.old in let news = map C.remaining self.new in
+            KeepsKeys (common news) olds news }
+        ensures few { AreFew (moves.old + 1) moves.new (map C.remaining self.old) (map C.remaining self.new) }
+        ensures enough { AreEnough (moves.old + 1) moves.new (length self.old) (common (map C.remaining self.new)) }
+    {
+        seek_first(&mut self.operands, &from, moves);
+        self.first = leap(&mut self.operands, moves);
+    }
+
+    fn seek_over<L: Ledger>(&mut self, from: DocKey, blank: Blank)
+        requires name { blank.name ≡ L.name }
+        requires parts { (blank.parts ≡ L.parts) × (0 < blank.parts) }
+        ensures { let olds = map C.remaining self.old in
+            HasLeapt (keys_from from (common olds)) olds (map C.remaining self.new) }
+    {
+        self.seek_counted(from, &mut Steps::<L>::new(blank));
+    }
 }
 
 impl<C: DocCursor> DocCursor for AndCursor<C> {
@@ -81,10 +150,7 @@ impl<C: DocCursor> DocCursor for AndCursor<C> {
         ensures operands { let olds = map C.remaining self.old in let news = map C.remaining self.new in
             KeepsKeys (common news) olds news }
     {
-        if let Some(key) = self.first {
-            pass_all(&mut self.operands, &key);
-            self.first = leap(&mut self.operands);
-        }
+        self.step_over::<Brand>(Blank::new(1));
     }
 
     fn seek(&mut self, from: DocKey)
@@ -93,7 +159,6 @@ impl<C: DocCursor> DocCursor for AndCursor<C> {
         ensures operands { let olds = map C.remaining self.old in let news = map C.remaining self.new in
             KeepsKeys (common news) olds news }
     {
-        seek_all(&mut self.operands, &from);
-        self.first = leap(&mut self.operands);
+        self.seek_over::<Brand>(from, Blank::new(1));
     }
 }

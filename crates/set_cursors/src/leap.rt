@@ -1,48 +1,104 @@
-ghost use Rattle.std.specs.Prelude.{◌<◌, ◌≡◌, map, slice_get, vec_len};
+ghost use Rattle.std.specs.Prelude.{◌≡◌, ◌+◌, ◌<◌, ◌≤◌, ℕ, [], Some, map, not, slice_get, slice_index_or, vec_len};
 ghost use Rattle.set_cursors.specs.Filters.{common};
-ghost use Rattle.set_cursors.specs.Leaps.{IsAsked, StandsAt};
-ghost use Rattle.uni_base.specs.Cursors.{IsRanked, keys_from};
+ghost use Rattle.set_cursors.specs.Leaps.{HasNoCommonBefore, IsAsked, StandsAt, first_filtered};
+ghost use Rattle.set_cursors.specs.Moves.{AreEnough, AreFew};
+ghost use Rattle.uni_base.specs.Cursors.{IsRanked, is_before, keys_from};
+ghost use Rattle.uni_base.specs.declared.entity.DocKey.{DocKey as Keys};
+ghost use Rattle.uni_base.specs.RankOrder.{doc_cmp};
+ghost use Rattle.std.specs.Ordering.{is_eq};
 ghost use Rattle.uni_base.specs.KeySets.{KeepsKeys};
 
-use uni_base::{DocCursor, DocKey};
+use crate::operands::pass;
+use std::sync::ledger::Ledger;
+use uni_base::{DocCursor, DocKey, Steps};
 
 // Moves an operand on to a key, and gives the key that it is then at.
-fn ask<C: DocCursor>(operand: &mut C, key: &DocKey) -> Option<DocKey>
+fn ask<C: DocCursor, L: Ledger>(
+    operand: &mut C,
+    key: &DocKey,
+    moves: &mut Steps<L>,
+) -> Option<DocKey>
     ensures moves { C.remaining operand.new ≡ keys_from key.now (C.remaining operand.old) }
     ensures at { result ≡ slice_get (C.remaining operand.new) 0 }
     ensures ranked { IsRanked (C.remaining operand.new) }
+    ensures counted { moves.new ≡ moves.old + 1 }
 {
+    moves.tick();
     operand.seek(*key);
     operand.peek()
 }
 
-// Asks one operand after the other about a key, until one is at a later key or at its end. Gives that
-// later key, or the key itself where all operands are at it.
-fn ask_all<C: DocCursor>(operands: &mut Vec<C>, key: &DocKey) -> Option<DocKey>
-    requires { 0 < vec_len operands.old }
-    ensures { let olds = map C.remaining operands.old.items in let news = map C.remaining operands.new.items in
-        IsAsked key.now result olds news }
+// Passes a key in the first operand, where all operands are at it.
+pub(crate) fn pass_first<C: DocCursor, L: Ledger>(
+    operands: &mut Vec<C>,
+    key: &DocKey,
+    moves: &mut Steps<L>,
+)
+    requires { StandsAt (Some key.now) (map C.remaining operands.old.items) }
+    ensures moves { map C.remaining operands.new.items
+        ≡ first_filtered (λ k. not (is_eq (doc_cmp key.now k))) (map C.remaining operands.old.items) }
+    ensures counted { moves.new ≡ moves.old + 1 }
 {
-    for i in 0..operands.len() {
-        let at = ask(&mut operands[i], key)?;
-        if at.cmp(key).is_ne() {
-            return Some(at);
-        }
-    }
-    Some(*key)
+    moves.tick();
+    pass(&mut operands[0], *key);
 }
 
-// Moves the operands to the first key that all of them have. Each is asked at most once about each key
-// that is tried, and a key is tried only where some operand is at it.
-pub(crate) fn leap<C: DocCursor>(operands: &mut Vec<C>) -> Option<DocKey>
+// Passes the keys before one in the first operand.
+pub(crate) fn seek_first<C: DocCursor, L: Ledger>(
+    operands: &mut Vec<C>,
+    from: &DocKey,
+    moves: &mut Steps<L>,
+)
+    ensures moves { map C.remaining operands.new.items
+        ≡ first_filtered (λ k. not (is_before k from.now)) (map C.remaining operands.old.items) }
+    ensures counted { moves.new ≡ moves.old + 1 }
+{
+    moves.tick();
+    if let Some(first) = operands.first_mut() {
+        first.seek(*from);
+    }
+}
+
+// Asks one operand after the other about a key, or about the later one that the last was found to be at.
+// Gives the key that is reached, or none where an operand is at its end.
+fn ask_all<C: DocCursor, L: Ledger>(
+    operands: &mut Vec<C>,
+    key: &DocKey,
+    moves: &mut Steps<L>,
+) -> Option<DocKey>
+    requires some { 0 < vec_len operands.old }
+    requires bounds { HasNoCommonBefore key.now (map C.remaining operands.old.items) }
+    ensures asked { let olds = map C.remaining operands.old.items in let news = map C.remaining operands.new.items in
+        IsAsked key.now result olds news }
+    ensures few { moves.new ≤ moves.old + vec_len operands.old }
+    ensures enough { (k : Keys) → result ≡ Some k → moves.old + vec_len operands.old ≤ moves.new }
+    ensures counted { moves.old ≤ moves.new }
+{
+    let mut latest = *key;
+    for i in 0..operands.len() {
+        latest = ask(&mut operands[i], &latest, moves)?;
+    }
+    Some(latest)
+}
+
+// Moves the operands to the first key that all of them have. An operand is moved by a seek alone, and each
+// once for each key that is tried.
+pub(crate) fn leap<C: DocCursor, L: Ledger>(
+    operands: &mut Vec<C>,
+    moves: &mut Steps<L>,
+) -> Option<DocKey>
     ensures stands { StandsAt result (map C.remaining operands.new.items) }
+    ensures ranked { (k : Keys) → result ≡ Some k → (i : ℕ) → i < vec_len operands.new
+        → IsRanked (slice_index_or (map C.remaining operands.new.items) i []) }
     ensures common { common (map C.remaining operands.new.items) ≡ common (map C.remaining operands.old.items) }
     ensures operands { let olds = map C.remaining operands.old.items in let news = map C.remaining operands.new.items in
         KeepsKeys (common news) olds news }
+    ensures few { AreFew moves.old moves.new (map C.remaining operands.old.items) (map C.remaining operands.new.items) }
+    ensures enough { AreEnough moves.old moves.new (vec_len operands.old) (common (map C.remaining operands.new.items)) }
 {
     let mut key = operands.first()?.peek()?;
     loop {
-        let at = ask_all(operands, &key)?;
+        let at = ask_all(operands, &key, moves)?;
         if at.cmp(&key).is_eq() {
             return Some(at);
         }

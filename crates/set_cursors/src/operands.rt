@@ -1,4 +1,4 @@
-ghost use Rattle.std.specs.Prelude.{◌≡◌, ℕ, [], map, slice_get, slice_index_or};
+ghost use Rattle.std.specs.Prelude.{◌≡◌, ℕ, [], false, map, slice_get, slice_index_or};
 ghost use Rattle.set_cursors.specs.Firsts.{is_first, sooner_of, HasNoneBefore};
 ghost use Rattle.uni_base.specs.Cursors.{keys_from, IsRanked};
 ghost use Rattle.uni_base.specs.KeySets.{united, without};
@@ -38,9 +38,10 @@ pub(crate) fn is_at<C: DocCursor>(operand: &C, key: DocKey) -> bool
 }
 
 // Passes a key, if the operand has it, where the operand has none before it.
-fn pass<C: DocCursor>(operand: &mut C, key: DocKey)
+pub(crate) fn pass<C: DocCursor>(operand: &mut C, key: DocKey)
     requires { HasNoneBefore key (C.remaining operand.old) }
-    ensures { C.remaining operand.new ≡ without key (C.remaining operand.old) }
+    ensures passes { C.remaining operand.new ≡ without key (C.remaining operand.old) }
+    ensures stays { is_first key (C.remaining operand.old) ≡ false → operand.new ≡ operand.old }
 {
     if is_at(operand, key) {
         operand.step();
@@ -50,7 +51,9 @@ fn pass<C: DocCursor>(operand: &mut C, key: DocKey)
 // Passes a key in the operands that have it, where none has one before it.
 pub(crate) fn pass_all<C: DocCursor>(operands: &mut Vec<C>, key: &DocKey)
     requires { (i : ℕ) → HasNoneBefore key.now (slice_index_or (map C.remaining operands.old.items) i []) }
-    ensures { map C.remaining operands.new.items ≡ map (without key.now) (map C.remaining operands.old.items) }
+    ensures passes { map C.remaining operands.new.items ≡ map (without key.now) (map C.remaining operands.old.items) }
+    ensures stays { (i : ℕ) → is_first key.now (slice_index_or (map C.remaining operands.old.items) i []) ≡ false
+        → slice_get operands.new.items i ≡ slice_get operands.old.items i }
 {
     for i in 0..operands.len() {
         pass(&mut operands[i], *key);

@@ -1,13 +1,19 @@
-ghost use Rattle.std.specs.Prelude.{◌≡◌, ◌<◌, List, [], drop, length, map, slice_get, slice_index_or, Some};
+ghost use Rattle.std.specs.Prelude.{◌≡◌, ◌<◌, ℕ, List, [], drop, false, length, map, slice_get, slice_index_or, Some};
 ghost use Rattle.std.specs.Bool.{OnTrue};
+ghost use Rattle.set_cursors.specs.Filters.{common};
+ghost use Rattle.set_cursors.specs.Leaps.{HasLeapt};
+ghost use Rattle.uni_base.specs.declared.entity.DocKey.{DocKey as Keys};
 ghost use Rattle.uni_base.specs.Cursors.{IsRanked, keys_from};
 ghost use Rattle.uni_base.specs.KeySets.{has_first, united, KeepsKeys};
 
+use crate::leap::leap;
 use crate::operands::{first_of, is_at, pass_all, seek_all};
-use std::marker::Model;
-use uni_base::{DocCursor, DocKey};
+use std::marker::{Brand, Model};
+use std::sync::ledger::{Blank, Ledger};
+use uni_base::{DocCursor, DocKey, Steps};
 
-/// A cursor over the keys that some operand has. Contracts see it as its operands.
+/// A cursor over the keys that some operand has. Contracts see it as its operands. A step moves only the
+/// operands that have the current key.
 #[derive(Drop)]
 pub struct OrCursor<C: DocCursor> {
     operands: Vec<C>,
@@ -56,6 +62,30 @@ impl<C: DocCursor> OrCursor<C> {
     {
         &self.operands[i]
     }
+
+    /// Moves on by seeks, as an `AndCursor` does, to the first key that all operands have, and gives it. Where
+    /// there is none, the cursor is at some key that is left, or at its end.
+    pub fn leap(&mut self) -> Option<DocKey>
+        ensures first { result ≡ slice_get (common (map C.remaining self.old)) 0 }
+        ensures stands { (k : Keys) → result ≡ Some k → slice_get (united (map C.remaining self.new)) 0 ≡ Some k }
+        ensures keys { common (map C.remaining self.new) ≡ common (map C.remaining self.old) }
+        ensures operands { let olds = map C.remaining self.old in let news = map C.remaining self.new in
+            KeepsKeys (common news) olds news }
+    {
+        self.leap_over::<Brand>(Blank::new(1))
+    }
+
+    fn leap_over<L: Ledger>(&mut self, blank: Blank) -> Option<DocKey>
+        requires name { blank.name ≡ L.name }
+        requires parts { (blank.parts ≡ L.parts) × (0 < blank.parts) }
+        ensures first { result ≡ slice_get (common (map C.remaining self.old)) 0 }
+        ensures stands { (k : Keys) → result ≡ Some k → slice_get (united (map C.remaining self.new)) 0 ≡ Some k }
+        ensures leapt { let olds = map C.remaining self.old in HasLeapt (common olds) olds (map C.remaining self.new) }
+    {
+        let found = leap(&mut self.operands, &mut Steps::<L>::new(blank));
+        self.first = first_of(self.operands.as_slice());
+        found
+    }
 }
 
 impl<C: DocCursor> DocCursor for OrCursor<C> {
@@ -73,6 +103,8 @@ impl<C: DocCursor> DocCursor for OrCursor<C> {
             united news ≡ drop 1 (united olds) }
         ensures operands { let olds = map C.remaining self.old in let news = map C.remaining self.new in
             KeepsKeys (united news) olds news }
+        ensures others { let lists = map C.remaining self.old in (i : ℕ) → has_first (slice_index_or lists i []) (united lists) ≡ false
+            → slice_get self.new i ≡ slice_get self.old i }
     {
         if let Some(key) = self.first {
             pass_all(&mut self.operands, &key);

@@ -1,39 +1,34 @@
-use Rattle.std.proofs.Common.{sym, subst, Option, map, set, arith}
+use Rattle.std.proofs.Common.{Option, map, sym, subst, arith, set}
+use Rattle.std.proofs.lemmas.List.{length-map}
 use Rattle.uni_base.specs.declared.entity.DocKey.{DocKey}
 use Rattle.set_cursors.specs.Leaps.{IsAsked}
-use Rattle.set_cursors.proofs.Asked.{step_end, step_later, step_there, step_all, is_eq-from_ne}
-use Rattle.set_cursors.proofs.Moved.{moved_more}
-use Rattle.uni_base.specs.Cursors.{keys_from}
-use Rattle.uni_base.specs.RankOrder.{doc_cmp}
+use Rattle.set_cursors.proofs.Asked.{asked_all, start_asking, step_end, step_on}
 use Rattle.set_cursors.proofs.leap.ask_all.Goals as goal
 
-pub returns-in_err-at : goal.returns-in_err-at
-returns-in_err-at g c =
+pub loop-i-init : goal.loop-i-init
+loop-i-init g c = record { asking = start_asking c.args.key.now (map g.C.DocCursor.remaining c.args.operands.now.items) c.requires.bounds; counted = omega arith }
+
+pub returns-in_err-latest-clause-asked : goal.returns-in_err-latest-clause-asked
+returns-in_err-latest-clause-asked g c =
     let view = g.C.DocCursor.remaining in
     subst (λ (o : Option DocKey). IsAsked c.args.key.now o (map view c.args.operands.now.items) (map view (set c.loop-i.operands.items c.loop-i.i c.ask.new.operand))) (sym c.from_residual.ensures)
-    (step_end view c.args.key.now c.args.operands.now.items c.loop-i.operands.items c.loop-i.i c.index_mut.result.now c.ask.new.operand
-    (omega (arith, c.args.operands.now.ok.0)) c.loop-i.invariant.moved c.index_mut.ensures.value c.ask.ensures.moves c.in_err-at.ensures.at)
+    (step_end view c.args.key.now c.loop-i.latest c.args.operands.now.items c.loop-i.operands.items c.loop-i.i c.index_mut.result.now c.ask.new.operand
+    (omega (arith, c.args.operands.now.ok.0)) c.loop-i.invariant.asking c.index_mut.ensures.value c.ask.ensures.moves c.in_err-latest.ensures.at)
 
-pub returns-then-is_ne : goal.returns-then-is_ne
-returns-then-is_ne g c =
-    let view = g.C.DocCursor.remaining in
-    step_later view c.args.key.now c.args.operands.now.items c.loop-i.operands.items c.loop-i.i c.index_mut.result.now c.ask.new.operand
-    (omega (arith, c.args.operands.now.ok.0)) c.loop-i.invariant.moved c.index_mut.ensures.value c.ask.ensures.moves c.in_ok-at.at c.in_ok-at.ensures.at c.ask.ensures.ranked
-    (is_eq-from_ne (doc_cmp c.in_ok-at.at c.args.key.now) c.cmp.result c.is_ne.result c.cmp.ensures c.is_ne.ensures c.if-is_ne.true)
+pub returns-in_err-latest-clause-few : goal.returns-in_err-latest-clause-few
+returns-in_err-latest-clause-few g c = omega (arith, c.loop-i.invariant.counted, c.ask.ensures.counted, c.loop-i-test.true, c.len-i-end.ensures)
 
 pub loop-i-preserved : goal.loop-i-preserved
 loop-i-preserved g c =
     let view = g.C.DocCursor.remaining in
     record {
-      moved = moved_more view (keys_from c.args.key.now) c.args.operands.now.items c.loop-i.operands.items c.loop-i.i c.index_mut.result.now
-          (omega (arith, c.args.operands.now.ok.0)) c.loop-i.invariant.moved c.index_mut.ensures.value c.ask.new.operand c.ask.ensures.moves;
-      there = step_there view c.args.key.now c.args.operands.now.items c.loop-i.operands.items c.loop-i.i c.index_mut.result.now c.ask.new.operand
-          (omega (arith, c.args.operands.now.ok.0)) c.loop-i.invariant.moved c.index_mut.ensures.value c.ask.ensures.moves c.in_ok-at.at c.in_ok-at.ensures.at
-          (is_eq-from_ne (doc_cmp c.in_ok-at.at c.args.key.now) c.cmp.result c.is_ne.result c.cmp.ensures c.is_ne.ensures c.if-is_ne.false) c.loop-i.invariant.there;
+      asking = step_on view c.args.key.now c.loop-i.latest c.args.operands.now.items c.loop-i.operands.items c.loop-i.i c.index_mut.result.now c.ask.new.operand
+          (omega (arith, c.args.operands.now.ok.0)) c.loop-i.invariant.asking c.index_mut.ensures.value c.ask.ensures.moves c.in_ok-latest.latest c.in_ok-latest.ensures.at c.ask.ensures.ranked;
+      counted = omega (arith, c.loop-i.invariant.counted, c.ask.ensures.counted);
     }
 
-pub returns : goal.returns
-returns g c =
+pub returns-clause-asked : goal.returns-clause-asked
+returns-clause-asked g c =
     let view = g.C.DocCursor.remaining in
-    step_all view c.args.key.now c.args.operands.now.items c.loop-i.operands.items c.loop-i.i (omega (arith, c.args.operands.now.ok.0)) (omega (arith, c.args.operands.now.ok.0))
-    c.loop-i.invariant.moved c.loop-i.invariant.there
+    asked_all c.args.key.now c.loop-i.latest (map view c.args.operands.now.items) (map view c.loop-i.operands.items) c.loop-i.i
+    (omega (arith, c.args.operands.now.ok.0, c.requires.some, length-map c.args.operands.now.items view)) (omega (arith, c.args.operands.now.ok.0, length-map c.args.operands.now.items view)) c.loop-i.invariant.asking

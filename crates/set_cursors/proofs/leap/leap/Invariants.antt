@@ -1,8 +1,9 @@
-use Rattle.std.proofs.Common.{◌≡◌, ◌<◌, true, false, length, map, vec_len}
-use Rattle.uni_base.specs.declared.entity.DocKey.{DocKey}
-use Rattle.uni_base.specs.Cursors.{is_before, keys_from}
+use Rattle.std.proofs.Common.{◌≡◌, ◌<◌, ◌≤◌, true, length, map, vec_len}
+use Rattle.uni_base.specs.Cursors.{keys_from}
 use Rattle.uni_base.specs.KeySets.{has_key, united}
-use Rattle.set_cursors.proofs.Shared.{KeepsShared, all_have}
+use Rattle.set_cursors.specs.Leaps.{HasNoCommonBefore}
+use Rattle.set_cursors.proofs.Shared.{KeepsShared}
+use Rattle.set_cursors.proofs.Weights.{HasPaid}
 use Rattle.set_cursors.proofs.leap.leap.Given as goal
 
 abbrev pub invariant-loop-at : goal.invariant-loop-at
@@ -12,8 +13,10 @@ invariant-loop-at g l =
     record {
       some : 0 < vec_len l.operands;
       keeps : KeepsShared olds nows;
-      bounds : (k : DocKey) → all_have k nows ≡ true → is_before k l.key ≡ false;
+      bounds : HasNoCommonBefore l.key nows;
       is_among : has_key (united nows) l.key ≡ true;
+      counted : l.initial.moves ≤ l.moves;
+      paid : HasPaid l.initial.moves l.moves l.key olds nows;
     }
 
 abbrev pub decreases-loop-at : goal.decreases-loop-at

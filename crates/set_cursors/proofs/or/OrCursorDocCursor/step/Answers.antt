@@ -6,10 +6,10 @@ use Rattle.set_cursors.proofs.or.OrCursorDocCursor.step.Goals as goal
 pub returns-in-Some-clause-after : goal.returns-in-Some-clause-after
 returns-in-Some-clause-after g c =
     united-passed g.C.DocCursor.remaining c.pass_all.new.operands.items c.args.self.now c.self.inside.operands.items c.self.view_is c.in-Some.key
-    (sym (first_was g.C.DocCursor.remaining c.pass_all.new.operands.items c.args.self.now c.self.inside.operands.items c.self.view_is c.self.inside.first c.self.invariant) ∙ c.in-Some.is) c.pass_all.ensures
+    (sym (first_was g.C.DocCursor.remaining c.pass_all.new.operands.items c.args.self.now c.self.inside.operands.items c.self.view_is c.self.inside.first c.self.invariant) ∙ c.in-Some.is) c.pass_all.ensures.passes
 
 pub returns-in-Some-clause-operands : goal.returns-in-Some-clause-operands
-returns-in-Some-clause-operands g c = KeepsKeys-passed g.C.DocCursor.remaining c.pass_all.new.operands.items c.args.self.now c.self.inside.operands.items c.self.view_is c.in-Some.key c.pass_all.ensures
+returns-in-Some-clause-operands g c = KeepsKeys-passed g.C.DocCursor.remaining c.pass_all.new.operands.items c.args.self.now c.self.inside.operands.items c.self.view_is c.in-Some.key c.pass_all.ensures.passes
 
 pub pass_all-requires : goal.pass_all-requires
 pass_all-requires g c = λ i ranked x has. least_in c.in-Some.key (map g.C.DocCursor.remaining c.self.inside.operands.items) i (sym c.self.invariant ∙ c.in-Some.is) x has

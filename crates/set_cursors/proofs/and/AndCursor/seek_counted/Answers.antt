@@ -1,0 +1,21 @@
+use Rattle.std.proofs.Common.{◌+◌, not, map}
+use Rattle.uni_base.specs.declared.entity.DocKey.{DocKey}
+use Rattle.uni_base.specs.Cursors.{is_before}
+use Rattle.set_cursors.proofs.Commons.{common-sought, common-KeepsKeys-sought, few-moved}
+use Rattle.set_cursors.proofs.and.AndCursor.seek_counted.Goals as goal
+
+pub returns-clause-after : goal.returns-clause-after
+returns-clause-after g c =
+    common-sought g.C.DocCursor.remaining c.leap-self-inside.new.operands.items c.seek_first.new.operands.items c.args.self.now c.self.inside.operands.items c.self.view_is
+    c.leap-self-inside.ensures.common c.leap-self-inside.ensures.operands c.args.from c.seek_first.ensures.moves
+
+pub returns-clause-operands : goal.returns-clause-operands
+returns-clause-operands g c =
+    common-KeepsKeys-sought g.C.DocCursor.remaining c.leap-self-inside.new.operands.items c.seek_first.new.operands.items c.args.self.now c.self.inside.operands.items c.self.view_is
+    c.leap-self-inside.ensures.common c.leap-self-inside.ensures.operands c.args.from c.seek_first.ensures.moves
+
+pub returns-clause-few : goal.returns-clause-few
+returns-clause-few g c =
+    few-moved g.C.DocCursor.remaining c.seek_first.new.operands.items c.args.self.now c.self.inside.operands.items c.self.view_is (map g.C.DocCursor.remaining c.leap-self-inside.new.operands.items)
+    (λ (k : DocKey). not (is_before k c.args.from)) c.seek_first.ensures.moves (c.args.moves.now + 1) c.seek_first.new.moves c.leap-self-inside.new.moves c.seek_first.ensures.counted
+    c.leap-self-inside.ensures.few

@@ -1,0 +1,11 @@
+use Rattle.std.proofs.Common.{◌∙◌, sym, map, arith}
+use Rattle.std.proofs.lemmas.List.{length-map}
+use Rattle.set_cursors.proofs.Commons.{first_of_all}
+use Rattle.set_cursors.proofs.or.OrCursor.leap_over.Goals as goal
+
+pub returns-clause-stands : goal.returns-clause-stands
+returns-clause-stands g c k e =
+    let view = g.C.DocCursor.remaining in
+    let ops = c.leap-found.new.operands in
+    first_of_all k (map view ops.items) (sym e ∙ c.leap-found.ensures.stands.first_is) (c.leap-found.ensures.stands.all_there k e)
+    (λ i within. c.leap-found.ensures.ranked k e i (omega (arith, within, ops.ok.0, length-map ops.items view)))
