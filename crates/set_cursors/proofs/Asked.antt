@@ -9,7 +9,7 @@ use Rattle.uni_base.specs.declared.entity.DocKey.{DocKey}
 use Rattle.uni_base.specs.Cursors.{is_before, IsRanked, keys_from}
 use Rattle.uni_base.specs.KeySets.{has_key, united}
 use Rattle.uni_base.proofs.RankedLemmas.{has_key-keys_from, has_key-not_before, is_before_self, is_before_trans_left, is_eq_self, keys_from_head_is}
-use Rattle.set_cursors.specs.Leaps.{HasNoCommonBefore, IsAsked, IsMoved, IsReached}
+use Rattle.set_cursors.specs.Leaps.{HasNoCommonBefore, IsAsked, IsMoved, IsPart, IsReached}
 use Rattle.set_cursors.proofs.FirstKeys.{has_key-among}
 
 -- what all pass, one passes
@@ -40,11 +40,6 @@ not_before_trans a b c p q = by (is_before c a) refl
     by : (r : Bool) → is_before c a ≡ r → r ≡ false
     by true e = absurd (let f = is_before_trans_left b c a q e in cc)
     by false e = refl
-
--- a list that has none but keys of another, and is no longer
-pub record IsPart (old new : List DocKey) : Type 0 where
-  pub no_longer : length new ≤ length old
-  pub had : (k : DocKey) → has_key new k ≡ true → has_key old k ≡ true
 
 IsPart-from : (old new : List DocKey) (to : DocKey) → new ≡ keys_from to old → IsPart old new
 IsPart-from old new to is = subst (IsPart old) (sym is) part
@@ -86,9 +81,8 @@ module _ (asked : DocKey) (answer : Option DocKey) (olds news : List (List DocKe
   answered : IsAsked asked answer olds news
   answered = record {
     count = count;
-    no_longer = λ i. (part i).no_longer;
+    parts = part;
     ended = ended;
-    had = λ k all. pass_all (λ keys. has_key keys k) olds [] (λ i within. (part i).had k (all_pass (λ keys. has_key keys k) news i [] (omega arith) all));
     reached = reached;
   }
 

@@ -4,5 +4,5 @@ mod Differences
 mod Filtered
 mod FirstKeys
 mod Moved
-mod Shared
+pub mod Shared
 mod Weights

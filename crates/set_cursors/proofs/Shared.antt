@@ -10,7 +10,7 @@ use Rattle.uni_base.proofs.RankedLemmas.{and_false, and_true, has_key-filter, ha
 use Rattle.uni_base.proofs.UnitedLemmas.{has_key-united, IsRanked-united}
 use Rattle.set_cursors.specs.Filters.{common}
 use Rattle.set_cursors.specs.Firsts.{is_first}
-use Rattle.set_cursors.specs.Leaps.{HasNoCommonBefore, IsAsked, IsReached, StandsAt}
+use Rattle.set_cursors.specs.Leaps.{HasNoCommonBefore, IsAsked, IsPart, IsReached, StandsAt}
 use Rattle.set_cursors.proofs.Asked.{all_pass, none_first, not_before_trans, pass_all, some_first}
 use Rattle.set_cursors.proofs.FirstKeys.{has_key-among}
 use Rattle.std.proofs.lemmas.List.{length-map}
@@ -39,7 +39,7 @@ pub record KeepsShared (olds news : List (List DocKey)) : Type 0 where
 pub KeepsShared_refl : (lists : List (List DocKey)) → KeepsShared lists lists
 KeepsShared_refl lists = record { count = refl; olds_keep = λ k _. refl; news_had = λ k _. refl }
 
-all_have_same : (k : DocKey) (xs ys : List (List DocKey)) → holders k xs ≡ holders k ys → all_have k xs ≡ all_have k ys
+pub all_have_same : (k : DocKey) (xs ys : List (List DocKey)) → holders k xs ≡ holders k ys → all_have k xs ≡ all_have k ys
 all_have_same k xs ys e = all_have-holders k xs ∙ ap (list_all (λ b. b)) e ∙ sym (all_have-holders k ys)
 
 pub KeepsShared_trans : (olds mids news : List (List DocKey)) → KeepsShared olds mids → KeepsShared mids news → KeepsShared olds news
@@ -130,9 +130,13 @@ reached_holders key at olds news count reached k late = holders_from k olds news
         ∙ ap (λ b. has_key (get_or olds i []) k && not b) (not_before_trans m.to at k m.not_after late) ∙ and_true (has_key (get_or olds i []) k)
 
 module _ (key : DocKey) (answer : Option DocKey) (mids news : List (List DocKey)) (asked : IsAsked key answer mids news) where
+  asked_had : (k : DocKey) → all_have k news ≡ true → all_have k mids ≡ true
+  asked_had k all =
+      pass_all (λ (keys : List DocKey). has_key keys k) mids [] (λ i within. (asked.parts i).had k (all_pass (λ (keys : List DocKey). has_key keys k) news i [] (omega (arith, asked.count)) all))
+
   -- what all have stays, and where there is no answer nothing is that all have
   pub asked_keeps : KeepsShared mids news
-  asked_keeps = record { count = asked.count; olds_keep = keep; news_had = λ k all. keep k (asked.had k all) }
+  asked_keeps = record { count = asked.count; olds_keep = keep; news_had = λ k all. keep k (asked_had k all) }
     where
       keep : (k : DocKey) → all_have k mids ≡ true → holders k news ≡ holders k mids
       keep k all = by answer refl
@@ -142,13 +146,13 @@ module _ (key : DocKey) (answer : Option DocKey) (mids news : List (List DocKey)
           by (Some at) e = let r = asked.reached at e in reached_holders key at mids news asked.count r k (r.bounds k all)
 
   pub asked_bounds : (at : DocKey) → answer ≡ Some at → HasNoCommonBefore at news
-  asked_bounds at e = λ k all. (asked.reached at e).bounds k (asked.had k all)
+  asked_bounds at e = λ k all. (asked.reached at e).bounds k (asked_had k all)
 
   pub asked_ended : answer ≡ None → StandsAt None news
   asked_ended e = stands_nowhere news (λ k. by k (all_have k news) refl)
     where
       by : (k : DocKey) (b : Bool) → all_have k news ≡ b → b ≡ false
-      by k true all = absurd (let f = asked.ended e k in let g = asked.had k all in cc)
+      by k true all = absurd (let f = asked.ended e k in let g = asked_had k all in cc)
       by k false all = refl
 
   -- a later key is nearer to the end
@@ -275,3 +279,28 @@ module _ {C : Type 0} (view : C → List DocKey) (ops : List C) (x : C) (first :
   start_among key e =
       has_key-among (map view ops) 0 key
       (ap (λ (ks : List DocKey). has_key ks key) ((start_list ops first).0 ∙ some_first (view x) key e) ∙ ap (λ b. b || has_key (drop 1 (view x)) key) (is_eq_self key))
+
+-- ---- lists that are parts of others
+
+pub IsPart_refl : (lists : List (List DocKey)) (i : ℕ) → IsPart (get_or lists i []) (get_or lists i [])
+IsPart_refl lists i = record { no_longer = omega arith; had = λ k has. has }
+
+pub IsPart_trans : (old mid new : List DocKey) → IsPart old mid → IsPart mid new → IsPart old new
+IsPart_trans old mid new p q = record { no_longer = omega (arith, p.no_longer, q.no_longer); had = λ k has. p.had k (q.had k has) }
+
+-- no key is new
+pub united_parts : (olds news : List (List DocKey)) → length news ≡ length olds → ((i : ℕ) → IsPart (get_or olds i []) (get_or news i [])) → (k : DocKey) → has_key (united news) k ≡ true → has_key (united olds) k ≡ true
+united_parts olds news count parts k has = has_key-united olds k ∙ by olds news count parts (sym (has_key-united news k) ∙ has)
+  where
+    more : (a b c e : Bool) → (a ≡ true → c ≡ true) → (b ≡ true → e ≡ true) → (a || b) ≡ true → (c || e) ≡ true
+    more true b c e f g h = ap (λ x. x || e) (f refl)
+    more false b true e f g h = refl
+    more false b false e f g h = g h
+
+    by : (olds news : List (List DocKey)) → length news ≡ length olds → ((i : ℕ) → IsPart (get_or olds i []) (get_or news i []))
+        → list_any (λ keys. has_key keys k) news ≡ true → list_any (λ keys. has_key keys k) olds ≡ true
+    by olds [] count parts has = absurd cc
+    by [] (n ∷ news) count parts has = absurd (omega arith)
+    by (o ∷ olds) (n ∷ news) count parts has =
+        more (has_key n k) (list_any (λ keys. has_key keys k) news) (has_key o k) (list_any (λ keys. has_key keys k) olds) ((parts 0).had k)
+        (by olds news (omega arith) (λ i. parts (suc i))) has

@@ -106,7 +106,7 @@ module _ (was made now : ℕ) (key : DocKey) (answer : Option DocKey) (inits mid
   pub last_paid : AreFew was now inits news
   unfolding HasPaid
   last_paid i within =
-      by (length (get_or inits i [])) (length (get_or news i [])) (length (get_or mids i [])) (tilt key (get_or mids i [])) (paid i within) (asked.no_longer i)
+      by (length (get_or inits i [])) (length (get_or news i [])) (length (get_or mids i [])) (tilt key (get_or mids i [])) (paid i within) (asked.parts i).no_longer
     where
       by : (x y z t : ℕ) → made + length inits * (2 * z + t) ≤ was + length inits * (2 * x + 2) → y ≤ z → now ≤ was + length inits * (2 * (x - y) + 3)
       by x y z t p less =

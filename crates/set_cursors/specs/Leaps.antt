@@ -35,13 +35,17 @@ pub record IsReached (asked at : DocKey) (olds news : List (List DocKey)) : Type
   pub bounds : HasNoCommonBefore at olds
   pub each_moved : (i : ℕ) → i < length olds → IsMoved asked at (slice_index_or olds i []) (slice_index_or news i [])
 
--- operands are asked about a key: none gets more keys, and there is no answer only where they have no
+-- a list that is no longer than another, and has none but keys of it
+pub record IsPart (old new : List DocKey) : Type 0 where
+  pub no_longer : length new ≤ length old
+  pub had : (k : DocKey) → has_key new k ≡ true → has_key old k ≡ true
+
+-- operands are asked about a key: none gets further keys, and there is no answer only where they have no
 -- common key
 pub record IsAsked (asked : DocKey) (answer : Option DocKey) (olds news : List (List DocKey)) : Type 0 where
   pub count : length news ≡ length olds
-  pub no_longer : (i : ℕ) → length (slice_index_or news i []) ≤ length (slice_index_or olds i [])
+  pub parts : (i : ℕ) → IsPart (slice_index_or olds i []) (slice_index_or news i [])
   pub ended : answer ≡ None → (k : DocKey) → list_all (λ keys. has_key keys k) olds ≡ false
-  pub had : (k : DocKey) → list_all (λ keys. has_key keys k) news ≡ true → list_all (λ keys. has_key keys k) olds ≡ true
   pub reached : (at : DocKey) → answer ≡ Some at → IsReached asked at olds news
 
 -- operands have leapt: their common keys are those that were to be left, and each keeps those that it had

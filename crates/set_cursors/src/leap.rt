@@ -1,6 +1,6 @@
 ghost use Rattle.std.specs.Prelude.{◌≡◌, ◌+◌, ◌<◌, ◌≤◌, ℕ, [], Some, map, not, slice_get, slice_index_or, vec_len};
 ghost use Rattle.set_cursors.specs.Filters.{common};
-ghost use Rattle.set_cursors.specs.Leaps.{HasNoCommonBefore, IsAsked, StandsAt, first_filtered};
+ghost use Rattle.set_cursors.specs.Leaps.{HasNoCommonBefore, IsAsked, IsPart, StandsAt, first_filtered};
 ghost use Rattle.set_cursors.specs.Moves.{AreEnough, AreFew};
 ghost use Rattle.uni_base.specs.Cursors.{IsRanked, is_before, keys_from};
 ghost use Rattle.uni_base.specs.declared.entity.DocKey.{DocKey as Keys};
@@ -93,6 +93,8 @@ pub(crate) fn leap<C: DocCursor, L: Ledger>(
     ensures common { common (map C.remaining operands.new.items) ≡ common (map C.remaining operands.old.items) }
     ensures operands { let olds = map C.remaining operands.old.items in let news = map C.remaining operands.new.items in
         KeepsKeys (common news) olds news }
+    ensures parts { let olds = map C.remaining operands.old.items in let news = map C.remaining operands.new.items in
+        (i : ℕ) → IsPart (slice_index_or olds i []) (slice_index_or news i []) }
     ensures few { AreFew moves.old moves.new (map C.remaining operands.old.items) (map C.remaining operands.new.items) }
     ensures enough { AreEnough moves.old moves.new (vec_len operands.old) (common (map C.remaining operands.new.items)) }
 {

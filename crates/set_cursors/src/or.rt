@@ -1,10 +1,10 @@
-ghost use Rattle.std.specs.Prelude.{◌≡◌, ◌<◌, ℕ, List, [], drop, false, length, map, slice_get, slice_index_or, Some};
+ghost use Rattle.std.specs.Prelude.{◌≡◌, ◌<◌, ℕ, List, [], drop, false, length, map, slice_get, slice_index_or, Some, true};
 ghost use Rattle.std.specs.Bool.{OnTrue};
 ghost use Rattle.set_cursors.specs.Filters.{common};
 ghost use Rattle.set_cursors.specs.Leaps.{HasLeapt};
 ghost use Rattle.uni_base.specs.declared.entity.DocKey.{DocKey as Keys};
 ghost use Rattle.uni_base.specs.Cursors.{IsRanked, keys_from};
-ghost use Rattle.uni_base.specs.KeySets.{has_first, united, KeepsKeys};
+ghost use Rattle.uni_base.specs.KeySets.{has_first, has_key, united, KeepsKeys};
 
 use crate::leap::leap;
 use crate::operands::{first_of, is_at, pass_all, seek_all};
@@ -71,6 +71,8 @@ impl<C: DocCursor> OrCursor<C> {
         ensures keys { common (map C.remaining self.new) ≡ common (map C.remaining self.old) }
         ensures operands { let olds = map C.remaining self.old in let news = map C.remaining self.new in
             KeepsKeys (common news) olds news }
+        ensures within { (k : Keys) → has_key (united (map C.remaining self.new)) k ≡ true
+            → has_key (united (map C.remaining self.old)) k ≡ true }
     {
         self.leap_over::<Brand>(Blank::new(1))
     }
@@ -81,6 +83,8 @@ impl<C: DocCursor> OrCursor<C> {
         ensures first { result ≡ slice_get (common (map C.remaining self.old)) 0 }
         ensures stands { (k : Keys) → result ≡ Some k → slice_get (united (map C.remaining self.new)) 0 ≡ Some k }
         ensures leapt { let olds = map C.remaining self.old in HasLeapt (common olds) olds (map C.remaining self.new) }
+        ensures within { (k : Keys) → has_key (united (map C.remaining self.new)) k ≡ true
+            → has_key (united (map C.remaining self.old)) k ≡ true }
     {
         let found = leap(&mut self.operands, &mut Steps::<L>::new(blank));
         self.first = first_of(self.operands.as_slice());

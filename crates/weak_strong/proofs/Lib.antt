@@ -1,4 +1,5 @@
 mod Counting
+mod Leapt
 mod Placed
 mod Settled
 mod Started

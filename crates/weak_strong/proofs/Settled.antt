@@ -1,5 +1,5 @@
 -- A walk that passes what it refuses.
-use Rattle.std.proofs.Common.{◌≡◌, ℕ, ◌+◌, ◌<◌, ◌≤◌, Bool, true, false, ◌||◌, List, [], ◌∷◌, Some, refl, sym, ◌∙◌, ap, subst, arith, map, slice_get, drop, All}
+use Rattle.std.proofs.Common.{◌≡◌, ℕ, ◌+◌, ◌<◌, ◌≤◌, Bool, true, false, ◌||◌, List, [], ◌∷◌, Option, None, Some, refl, sym, ◌∙◌, ap, subst, arith, map, slice_get, drop, All}
 use Rattle.std.proofs.lemmas.List.{get_or-map, length-map}
 use Rattle.std.proofs.lemmas.List.Elements.{All-map}
 use Rattle.std.specs.Ordering.{is_eq}
@@ -81,12 +81,29 @@ module _ (rule : Rule) (olds news : List (List DocKey)) (before counters : List 
       ∙ ap (drop 1) (sym (walk_of-is rule olds before kept))
 
 -- the first key of a settled walk
-pub settled_first : (rule : Rule) (lists : List (List DocKey)) (counters : List (Quota × ℕ)) (kept : ℕ) → IsSettled rule lists counters kept → slice_get (united lists) 0 ≡ slice_get (walk_of rule lists counters kept) 0
-settled_first rule lists counters kept settled = by (united lists) refl ∙ ap (λ (ks : List DocKey). slice_get ks 0) (sym (walk_of-is rule lists counters kept))
+pub settled_first : (rule : Rule) (lists : List (List DocKey)) (counters : List (Quota × ℕ)) (kept : ℕ) (at : Option DocKey) → IsSettled rule lists counters kept at → at ≡ slice_get (walk_of rule lists counters kept) 0
+settled_first rule lists counters kept None settled = sym (ap (λ (ks : List DocKey). slice_get ks 0) (settled.over refl))
+settled_first rule lists counters kept (Some k) settled =
+    sym (ap (λ (ks : List DocKey). slice_get ks 0)
+    (walk_of-is rule lists counters kept ∙ walk_keeps (keeps_by rule) kept (walkers lists counters) (united lists) k (settled.stands k refl) (settled.keeps k refl)))
+
+-- no candidate is left
+pub settled_end : (rule : Rule) (lists : List (List DocKey)) (counters : List (Quota × ℕ)) (kept : ℕ) → slice_get (united lists) 0 ≡ None → IsSettled rule lists counters kept None
+settled_end rule lists counters kept none = record {
+  stands = λ k e. absurd cc;
+  keeps = λ k e. absurd cc;
+  over = λ _. walk_of-is rule lists counters kept ∙ ap (walk (keeps_by rule) kept (walkers lists counters)) (empty (united lists) none);
+}
   where
-    by : (all : List DocKey) → united lists ≡ all → slice_get (united lists) 0 ≡ slice_get (walk (keeps_by rule) kept (walkers lists counters) (united lists)) 0
-    by [] e =
-        ap (λ (ks : List DocKey). slice_get ks 0) e ∙ sym (ap (λ (ks : List DocKey). slice_get (walk (keeps_by rule) kept (walkers lists counters) ks) 0) e)
-    by (x ∷ xs) e =
-        let first = ap (λ (ks : List DocKey). slice_get ks 0) e in
-        first ∙ sym (ap (λ (ks : List DocKey). slice_get ks 0) (walk_keeps (keeps_by rule) kept (walkers lists counters) (united lists) x first (settled x first)))
+    empty : (ks : List DocKey) → slice_get ks 0 ≡ None → ks ≡ []
+    empty [] e = refl
+    empty (x ∷ xs) e = cc
+
+-- the candidate that is kept
+pub settled_here : (rule : Rule) (lists : List (List DocKey)) (counters : List (Quota × ℕ)) (kept : ℕ) (k : DocKey) → slice_get (united lists) 0 ≡ Some k → keeps_by rule kept (walkers lists counters) k ≡ true
+    → IsSettled rule lists counters kept (Some k)
+settled_here rule lists counters kept k first keeps = record {
+  stands = λ x e. first ∙ e;
+  keeps = λ x e. let s : k ≡ x = cc in ap (keeps_by rule kept (walkers lists counters)) (sym s) ∙ keeps;
+  over = λ e. absurd cc;
+}

@@ -1,5 +1,5 @@
 -- A walk as its value shows it.
-use Rattle.std.proofs.Common.{◌≡◌, ℕ, ◌+◌, ◌^◌, ◌<◌, ◌≤◌, Bool, true, false, List, [], ◌∷◌, Option, None, Some, refl, sym, ◌∙◌, ap, subst, arith, length, map, get_or, slice_get, drop, All}
+use Rattle.std.proofs.Common.{◌≡◌, ℕ, ◌+◌, ◌^◌, ◌<◌, ◌≤◌, Bool, true, false, List, [], ◌∷◌, Option, None, Some, refl, sym, ◌∙◌, ap, subst, arith, length, map, get_or, slice_get, drop, All, is_some}
 use Rattle.std.proofs.lemmas.List.{length-map}
 use Rattle.std.specs.Bool.{OnTrue}
 use Rattle.std.specs.declared.cmp.Ordering.{Ordering}
@@ -31,6 +31,15 @@ pub none_from : (o : Option DocKey) → ((k : DocKey) → o ≡ Some k → ⊥) 
 none_from None e = refl
 none_from (Some k) e = absurd (e k refl)
 
+-- what a test for a key has told
+pub some_for : (o : Option DocKey) (r : Bool) → r ≡ is_some o → r ≡ true → (k : DocKey) × (o ≡ Some k)
+some_for None r e f = absurd cc
+some_for (Some k) r e f = (k, refl)
+
+pub none_for : (o : Option DocKey) (r : Bool) → r ≡ is_some o → r ≡ false → o ≡ None
+none_for None r e f = refl
+none_for (Some k) r e f = absurd cc
+
 first_same : (keys xs ys : List DocKey) → slice_get xs 0 ≡ slice_get ys 0 → has_first keys xs ≡ has_first keys ys
 first_same keys [] [] e = refl
 first_same keys [] (y ∷ ys) e = absurd cc
@@ -48,23 +57,35 @@ module _ {C : Type 0} (view : C → List DocKey) (v : Whole C) (rule : Rule) (ca
   pub whole_lists : map view cands ≡ map view v.1
   whole_lists = ap (λ (w : Whole C). map view w.1) is
 
-  module _ (settled : IsSettled rule (map view cands) counters kept) where
-    pub whole_first : slice_get (united (map view cands)) 0 ≡ slice_get (keys_of view v) 0
-    whole_first = settled_first rule (map view cands) counters kept settled ∙ ap (λ (ks : List DocKey). slice_get ks 0) whole_keys
+  module _ (at : Option DocKey) (settled : IsSettled rule (map view cands) counters kept at) where
+    pub whole_first : at ≡ slice_get (keys_of view v) 0
+    whole_first = settled_first rule (map view cands) counters kept at settled ∙ ap (λ (ks : List DocKey). slice_get ks 0) whole_keys
 
-    pub whole_holds : (i : ℕ) (r : Bool) → r ≡ has_first (get_or (map view cands) i []) (united (map view cands)) → r ≡ has_first (get_or (map view v.1) i []) (keys_of view v)
-    whole_holds i r e =
-        e ∙ first_same (get_or (map view cands) i []) (united (map view cands)) (keys_of view v) whole_first
+    -- where it stands at a key, that is the first of all keys too
+    pub whole_stands : (k : DocKey) → at ≡ Some k → slice_get (united (map view cands)) 0 ≡ slice_get (keys_of view v) 0
+    whole_stands k e = settled.stands k e ∙ sym e ∙ whole_first
+
+    pub whole_holds : (k : DocKey) → at ≡ Some k → (i : ℕ) (r : Bool) → r ≡ has_first (get_or (map view cands) i []) (united (map view cands)) → r ≡ has_first (get_or (map view v.1) i []) (keys_of view v)
+    whole_holds k here i r e =
+        e ∙ first_same (get_or (map view cands) i []) (united (map view cands)) (keys_of view v) (whole_stands k here)
         ∙ ap (λ (ls : List (List DocKey)). has_first (get_or ls i []) (keys_of view v)) whole_lists
 
-    pub whole_current : (i : ℕ) (r : Bool) → OnTrue r (slice_get (get_or (map view cands) i []) 0 ≡ slice_get (united (map view cands)) 0)
+    pub whole_current : (k : DocKey) → at ≡ Some k → (i : ℕ) (r : Bool) → OnTrue r (slice_get (get_or (map view cands) i []) 0 ≡ slice_get (united (map view cands)) 0)
         → OnTrue r (slice_get (get_or (map view v.1) i []) 0 ≡ slice_get (keys_of view v) 0)
-    whole_current i r =
+    whole_current k here i r =
         on_true_same r (slice_get (get_or (map view cands) i []) 0 ≡ slice_get (united (map view cands)) 0) (slice_get (get_or (map view v.1) i []) 0 ≡ slice_get (keys_of view v) 0)
-        (λ e. ap (λ (ls : List (List DocKey)). slice_get (get_or ls i []) 0) (sym whole_lists) ∙ e ∙ whole_first)
+        (λ e. ap (λ (ls : List (List DocKey)). slice_get (get_or ls i []) 0) (sym whole_lists) ∙ e ∙ whole_stands k here)
 
-    -- at its end it stays
-    pub whole_end : slice_get (united (map view cands)) 0 ≡ None → keys_of view v ≡ drop 1 (keys_of view v)
+    -- at its end no operand has its key
+    pub whole_over : at ≡ None → (i : ℕ) → false ≡ has_first (get_or (map view v.1) i []) (keys_of view v)
+    whole_over none i = by (keys_of view v) (sym whole_first ∙ none)
+      where
+        by : (ks : List DocKey) → slice_get ks 0 ≡ None → false ≡ has_first (get_or (map view v.1) i []) ks
+        by [] e = refl
+        by (x ∷ xs) e = absurd cc
+
+    -- and it stays
+    pub whole_end : at ≡ None → keys_of view v ≡ drop 1 (keys_of view v)
     whole_end none = by (keys_of view v) (sym whole_first ∙ none)
       where
         by : (ks : List DocKey) → slice_get ks 0 ≡ None → ks ≡ drop 1 ks
@@ -91,7 +112,7 @@ module _ (olds news : List (List DocKey)) (before : List (Quota × ℕ)) (counte
   }
 
 module _ {C : Type 0} (view : C → List DocKey) (v : Whole C) (rule : Rule) (cands : List C) (before after : List (Quota × ℕ)) (kept next : ℕ) (is : (rule, cands, before, kept) ≡ v)
-    (settled : IsSettled rule (map view cands) before kept) (key : DocKey) (first : Some key ≡ slice_get (united (map view cands)) 0) (one : next ≡ kept + 1)
+    (at : Option DocKey) (settled : IsSettled rule (map view cands) before kept at) (key : DocKey) (here : at ≡ Some key) (one : next ≡ kept + 1)
     (counts : (k : DocKey) → slice_get (united (map view cands)) 0 ≡ Some k → walkers (map view cands) after ≡ map (walked k) (walkers (map view cands) before))
     (mids news : List (List DocKey)) (passed : united mids ≡ drop 1 (united (map view cands))) (keeps : KeepsKeys (united mids) (map view cands) mids)
     (walks : walk_of rule news after next ≡ walk_of rule mids after next) (settles : KeepsKeys (walk_of rule news after next) mids news) where
@@ -101,7 +122,7 @@ module _ {C : Type 0} (view : C → List DocKey) (v : Whole C) (rule : Rule) (ca
   pub stepped_walk : walk_of v.0 news after next ≡ drop 1 (keys_of view v)
   stepped_walk =
       ap (λ (r : Rule). walk_of r news after next) (sym same_rule) ∙ walks ∙ ap (λ (n : ℕ). walk_of rule mids after n) one
-      ∙ kept_on rule (map view cands) mids before after kept key (sym first) (settled key (sym first)) (counts key (sym first)) passed keeps
+      ∙ kept_on rule (map view cands) mids before after kept key (settled.stands key here) (settled.keeps key here) (counts key (settled.stands key here)) passed keeps
       ∙ ap (drop 1) (whole_keys view v rule cands before kept is)
 
   pub stepped_operands : KeepsKeys (walk_of v.0 news after next) (map view v.1) news

@@ -1,5 +1,7 @@
 -- The rules of both walks, one operand at a time.
-use Rattle.std.specs.Prelude.{ℕ, ◌+◌, Bool, ◌||◌, List, [], ◌∷◌, if◌then◌else◌}
+use Rattle.std.specs.Prelude.{ℕ, ◌+◌, Bool, false, ◌||◌, List, [], ◌∷◌, if◌then◌else◌}
+use Rattle.std.specs.List.{list_all}
+use Rattle.uni_base.specs.WalkLaws.{is_bare}
 use Rattle.uni_base.specs.declared.entity.DocKey.{DocKey}
 use Rattle.uni_base.specs.KeySets.{has_key}
 use Rattle.uni_base.specs.Walks.{Quota, Walker, lets_pass, has_share, spent, weak_keeps, strong_keeps}
@@ -25,3 +27,8 @@ walkers (keys ∷ lists) (counter ∷ counters) = record { has = has_key keys; q
 -- an operand's quota, and how many it has, once an entity is kept
 abbrev pub counted : Bool → Quota × ℕ → Quota × ℕ
 counted has counter = if has then (counter.0, counter.1 + 1) else (spent counter.0, counter.1)
+
+-- whether a walk keeps exactly what all operands have: it is weak, every count is used up, and none is a weight
+abbrev pub needs_all : Rule → List (Quota × ℕ) → Bool
+needs_all Weak counters = list_all (λ counter. is_bare counter.0) counters
+needs_all Strong counters = false

@@ -1,5 +1,5 @@
 -- A walk along the keys of several operands.
-use Rattle.std.specs.Prelude.{◌≡◌, ℕ, ◌≤◌, true, List, length, Some, slice_get, All}
+use Rattle.std.specs.Prelude.{◌≡◌, ℕ, ◌≤◌, true, List, [], length, Option, None, Some, slice_get, All}
 use Rattle.uni_base.specs.declared.entity.DocKey.{DocKey}
 use Rattle.uni_base.specs.KeySets.{has_key, united}
 use Rattle.uni_base.specs.Walks.{Quota, weak_walk, strong_walk}
@@ -15,19 +15,21 @@ pub record IsCounted (lists : List (List DocKey)) (counters : List (Quota × ℕ
   pub kept_before : (k : DocKey) → has_key (united lists) k ≡ true → kept ≤ place_of k
   pub owns : All (λ counter. counter.1 ≤ kept) counters
 
--- the first key of all operands, if there is one, is kept
-abbrev pub IsSettled : Rule → List (List DocKey) → List (Quota × ℕ) → ℕ → Type 0
-IsSettled rule lists counters kept = (k : DocKey) → slice_get (united lists) 0 ≡ Some k → keeps_by rule kept (walkers lists counters) k ≡ true
-
 -- what a walk keeps of the keys that its operands have left
 abbrev pub walk_of : Rule → List (List DocKey) → List (Quota × ℕ) → ℕ → List DocKey
 walk_of Weak lists counters kept = weak_walk kept (walkers lists counters) (united lists)
 walk_of Strong lists counters kept = strong_walk kept (walkers lists counters) (united lists)
 
+-- it stands at the first key of all operands, which it keeps, or it is over
+pub record IsSettled (rule : Rule) (lists : List (List DocKey)) (counters : List (Quota × ℕ)) (kept : ℕ) (at : Option DocKey) : Type 0 where
+  pub stands : (k : DocKey) → at ≡ Some k → slice_get (united lists) 0 ≡ Some k
+  pub keeps : (k : DocKey) → at ≡ Some k → keeps_by rule kept (walkers lists counters) k ≡ true
+  pub over : at ≡ None → walk_of rule lists counters kept ≡ []
+
 -- a walk that is counted, and stands at a key that it keeps
-pub record IsWalking (rule : Rule) (lists : List (List DocKey)) (counters : List (Quota × ℕ)) (kept : ℕ) : Type 0 where
+pub record IsWalking (rule : Rule) (lists : List (List DocKey)) (counters : List (Quota × ℕ)) (kept : ℕ) (at : Option DocKey) : Type 0 where
   pub counted : IsCounted lists counters kept
-  pub settled : IsSettled rule lists counters kept
+  pub settled : IsSettled rule lists counters kept at
 
 -- the keys of a weak walk, and of a strong one
 abbrev pub weak_keys : List (List DocKey) → List (Quota × ℕ) → ℕ → List DocKey

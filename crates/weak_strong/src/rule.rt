@@ -1,6 +1,8 @@
-ghost use Rattle.std.specs.Prelude.{◌≡◌, ◌<◌, ◌≤◌, ◌^◌, ◌-◌, ◌+◌};
+ghost use Rattle.std.specs.Prelude.{◌≡◌, ◌<◌, ◌≤◌, ◌^◌, ◌-◌, ◌+◌, map};
+ghost use Rattle.uni_base.specs.WalkLaws.{is_bare};
 ghost use Rattle.weak_strong.specs.Marks.{counter_of, quota_of};
-ghost use Rattle.weak_strong.specs.Rules.{allows_by, counted};
+ghost use Rattle.weak_strong.specs.Rules.{allows_by, counted, needs_all};
+ghost use Rattle.weak_strong.specs.declared.rule.Rule.TheVariants.{Weak};
 
 use crate::Fraction;
 
@@ -52,7 +54,42 @@ impl Rule {
     }
 }
 
+impl Rule {
+    // Whether what is left of the walk is what all operands have: it is weak, and no operand may be without a
+    // key any more.
+    pub(crate) fn needs_all(self, counters: &[Counter]) -> bool
+        ensures { result ≡ needs_all self (map counter_of counters.now) }
+    {
+        match self {
+            Rule::Weak => all_bare(counters),
+            Rule::Strong => false,
+        }
+    }
+}
+
+fn all_bare(counters: &[Counter]) -> bool
+    ensures { result ≡ needs_all Weak (map counter_of counters.now) }
+{
+    for counter in counters {
+        if !counter.is_bare() {
+            return false;
+        }
+    }
+    true
+}
+
 impl Counter {
+    // Whether no key may be kept any more that the operand lacks, in a weak walk.
+    pub(crate) fn is_bare(&self) -> bool
+        ensures { result ≡ is_bare (quota_of self.now.allowance) }
+    {
+        match self.allowance {
+            Allowance::Nothing => true,
+            Allowance::Hits(left) => left == 0,
+            Allowance::Weight(_) => false,
+        }
+    }
+
     // The counter once a key is kept, which the operand has or not.
     pub(crate) fn count(self, has: bool) -> Counter
         requires { self.own < 2 ^ 96 }

@@ -1,12 +1,12 @@
-ghost use Rattle.std.specs.Prelude.{◌≡◌, ◌+◌, ◌-◌, ◌<◌, ◌≤◌, ◌^◌, [], ◌∷◌, ◌++◌, All, OnOk, Some, drop, length, map, slice_get, slice_index_or};
+ghost use Rattle.std.specs.Prelude.{◌≡◌, ◌+◌, ◌-◌, ◌<◌, ◌≤◌, ◌^◌, [], ◌∷◌, ◌++◌, All, OnOk, Some, drop, length, map, slice_get, slice_index_or, true};
 ghost use Rattle.std.specs.Bool.{OnTrue};
 ghost use Rattle.uni_base.specs.Cursors.{IsRanked, keys_from};
 ghost use Rattle.uni_base.specs.KeySets.{has_first, united, KeepsKeys};
 ghost use Rattle.uni_base.specs.Walks.{walked};
 ghost use Rattle.weak_strong.specs.Marks.{counter_of, quota_of};
 ghost use Rattle.weak_strong.specs.Places.{place_of};
-ghost use Rattle.weak_strong.specs.Rules.{keeps_by, walkers};
-ghost use Rattle.weak_strong.specs.Walking.{IsCounted, IsSettled, walk_of};
+ghost use Rattle.weak_strong.specs.Rules.{keeps_by, needs_all, walkers};
+ghost use Rattle.weak_strong.specs.Walking.{IsCounted, IsWalking, walk_of};
 ghost use Rattle.uni_base.specs.declared.entity.DocKey.{DocKey as Keys};
 
 use crate::rule::{Allowance, Counter, Rule};
@@ -65,11 +65,15 @@ fn count<C: DocCursor>(candidates: &OrCursor<C>, counters: &mut Vec<Counter>, ne
     }
 }
 
-// Passes candidates up to the first that the walk keeps.
-fn settle<C: DocCursor>(rule: Rule, candidates: &mut OrCursor<C>, counters: &[Counter], kept: u128)
+// Passes candidates up to the first that the walk keeps, one after the other.
+fn pass_refused<C: DocCursor>(
+    rule: Rule,
+    candidates: &mut OrCursor<C>,
+    counters: &[Counter],
+    kept: u128,
+) -> Option<DocKey>
     requires { IsCounted (map C.remaining candidates.old) (map counter_of counters.now) kept }
-    ensures counted { IsCounted (map C.remaining candidates.new) (map counter_of counters.now) kept }
-    ensures settled { IsSettled rule (map C.remaining candidates.new) (map counter_of counters.now) kept }
+    ensures walking { IsWalking rule (map C.remaining candidates.new) (map counter_of counters.now) kept result }
     ensures walk { walk_of rule (map C.remaining candidates.new) (map counter_of counters.now) kept
         ≡ walk_of rule (map C.remaining candidates.old) (map counter_of counters.now) kept }
     ensures operands { let olds = map C.remaining candidates.old in let news = map C.remaining candidates.new in
@@ -77,9 +81,31 @@ fn settle<C: DocCursor>(rule: Rule, candidates: &mut OrCursor<C>, counters: &[Co
 {
     while let Some(key) = candidates.peek() {
         if is_kept(rule, candidates, counters, next(kept, key)) {
-            return;
+            return candidates.peek();
         }
         candidates.step();
+    }
+    None
+}
+
+// Moves the candidates to the first that the walk keeps. Where it keeps what all operands have, they leap.
+fn settle<C: DocCursor>(
+    rule: Rule,
+    candidates: &mut OrCursor<C>,
+    counters: &[Counter],
+    kept: u128,
+) -> Option<DocKey>
+    requires { IsCounted (map C.remaining candidates.old) (map counter_of counters.now) kept }
+    ensures walking { IsWalking rule (map C.remaining candidates.new) (map counter_of counters.now) kept result }
+    ensures walk { walk_of rule (map C.remaining candidates.new) (map counter_of counters.now) kept
+        ≡ walk_of rule (map C.remaining candidates.old) (map counter_of counters.now) kept }
+    ensures operands { let olds = map C.remaining candidates.old in let news = map C.remaining candidates.new in
+        KeepsKeys (walk_of rule news (map counter_of counters.now) kept) olds news }
+{
+    if rule.needs_all(counters) {
+        candidates.leap()
+    } else {
+        pass_refused(rule, candidates, counters, kept)
     }
 }
 
@@ -91,6 +117,7 @@ pub(crate) struct Walking<C: DocCursor> {
     candidates: OrCursor<C>,
     counters: Vec<Counter>,
     kept: u128,
+    at: Option<DocKey>,
 }
 
 impl<C: DocCursor> Model for Walking<C> {
@@ -104,7 +131,7 @@ impl<C: DocCursor> Model for Walking<C> {
 
     ghost view = { λ w. (w.rule, w.candidates, map counter_of w.counters.items, w.kept) };
 
-    ghost invariant = { λ w. IsWalking w.rule (map C.remaining w.candidates) (map counter_of w.counters.items) w.kept };
+    ghost invariant = { λ w. IsWalking w.rule (map C.remaining w.candidates) (map counter_of w.counters.items) w.kept w.at };
 }
 
 impl<C: DocCursor> Walking<C> {
@@ -118,12 +145,13 @@ impl<C: DocCursor> Walking<C> {
             (map C.remaining operands.items) (map C.remaining result.1) }
     {
         let mut candidates = OrCursor::new(operands);
-        settle(rule, &mut candidates, counters.as_slice(), 0);
+        let at = settle(rule, &mut candidates, counters.as_slice(), 0);
         Walking {
             rule,
             candidates,
             counters,
             kept: 0,
+            at,
         }
     }
 
@@ -131,7 +159,7 @@ impl<C: DocCursor> Walking<C> {
         ensures first { result ≡ slice_get (walk_of self.now.0 (map C.remaining self.now.1) self.now.2 self.now.3) 0 }
         ensures ranked { IsRanked (walk_of self.now.0 (map C.remaining self.now.1) self.now.2 self.now.3) }
     {
-        self.candidates.peek()
+        self.at
     }
 
     pub(crate) fn matches(&self, i: usize) -> bool
@@ -141,7 +169,7 @@ impl<C: DocCursor> Walking<C> {
         ensures current { let lists = map C.remaining self.now.1 in
             OnTrue result (slice_get (slice_index_or lists i []) 0 ≡ slice_get (walk_of self.now.0 lists self.now.2 self.now.3) 0) }
     {
-        self.candidates.matches(i)
+        self.at.is_some() && self.candidates.matches(i)
     }
 
     pub(crate) fn operand(&self, i: usize) -> &C
@@ -158,12 +186,12 @@ impl<C: DocCursor> Walking<C> {
         ensures operands { KeepsKeys (walk_of self.old.0 (map C.remaining self.new.1) self.new.2 self.new.3)
             (map C.remaining self.old.1) (map C.remaining self.new.1) }
     {
-        if let Some(key) = self.candidates.peek() {
+        if let Some(key) = self.at {
             let kept = next(self.kept, key);
             count(&self.candidates, &mut self.counters, kept);
             self.kept = kept;
             self.candidates.step();
-            settle(
+            self.at = settle(
                 self.rule,
                 &mut self.candidates,
                 self.counters.as_slice(),
@@ -172,7 +200,27 @@ impl<C: DocCursor> Walking<C> {
         }
     }
 
-    // Walks up to a key: what is passed is counted.
+    // Whether what is left is what all operands have.
+    fn needs_all(&self) -> bool
+        ensures { result ≡ needs_all self.now.0 self.now.2 }
+    {
+        self.rule.needs_all(self.counters.as_slice())
+    }
+
+    // Leaps to a key, where what is left is what all operands have. Nothing goes by what is passed.
+    fn leap(&mut self, from: DocKey)
+        requires { needs_all self.old.0 self.old.2 ≡ true }
+        ensures rule { self.new.0 ≡ self.old.0 }
+        ensures walk { walk_of self.old.0 (map C.remaining self.new.1) self.new.2 self.new.3
+            ≡ keys_from from (walk_of self.old.0 (map C.remaining self.old.1) self.old.2 self.old.3) }
+        ensures operands { KeepsKeys (walk_of self.old.0 (map C.remaining self.new.1) self.new.2 self.new.3)
+            (map C.remaining self.old.1) (map C.remaining self.new.1) }
+    {
+        self.candidates.seek(from);
+        self.at = self.candidates.leap();
+    }
+
+    // Walks up to a key: what is passed is counted, as long as something goes by it.
     pub(crate) fn seek(&mut self, from: DocKey)
         ensures rule { self.new.0 ≡ self.old.0 }
         ensures walk { walk_of self.old.0 (map C.remaining self.new.1) self.new.2 self.new.3
@@ -183,6 +231,9 @@ impl<C: DocCursor> Walking<C> {
         while let Some(key) = self.peek() {
             if key.cmp(&from).is_ge() {
                 return;
+            }
+            if self.needs_all() {
+                return self.leap(from);
             }
             self.step();
         }

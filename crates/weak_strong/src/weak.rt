@@ -16,7 +16,8 @@ use uni_base::{DocCursor, DocKey};
 
 /// A cursor over the keys that a weak walk keeps of its operands. Contracts see it as its operands, their
 /// quotas with how many of the kept keys they have, and how many are kept. A seek walks, since what is passed
-/// counts.
+/// counts. Once every count is used up and none is weighted, it leaps as an `AndCursor` does, and what a seek
+/// passes is no longer counted, since nothing goes by it.
 #[derive(Drop)]
 pub struct WeakAndCursor<C: DocCursor> {
     walking: Walking<C>,

@@ -1,10 +1,10 @@
-use Rattle.std.proofs.Common.{List, Option, ◌∙◌, ap, sym, subst, slice_get, map, arith, vec_len}
+use Rattle.std.proofs.Common.{List, [], Option, ◌∙◌, ap, sym, subst, slice_get, get_or, map, arith, vec_len}
 use Rattle.std.proofs.lemmas.List.{length-map}
 use Rattle.std.specs.Ordering.{is_eq}
 use Rattle.uni_base.specs.declared.entity.DocKey.{DocKey}
 use Rattle.set_cursors.specs.Filters.{common}
 use Rattle.set_cursors.specs.Leaps.{StandsAt}
-use Rattle.set_cursors.proofs.Shared.{KeepsShared_refl, KeepsShared_trans, KeepsKeys-shared, asked_bounds, asked_ended, asked_keeps, asked_nearer, common_same, later_from, stands_there, start_some, start_none, start_bounds, start_among}
+use Rattle.set_cursors.proofs.Shared.{IsPart_refl, IsPart_trans, KeepsShared_refl, KeepsShared_trans, KeepsKeys-shared, asked_bounds, asked_ended, asked_keeps, asked_nearer, common_same, later_from, stands_there, start_some, start_none, start_bounds, start_among}
 use Rattle.set_cursors.proofs.Weights.{enough_all, enough_none, last_paid, round_paid, start_paid}
 use Rattle.set_cursors.proofs.leap.leap.Goals as goal
 
@@ -23,6 +23,7 @@ loop-at-init g c =
       keeps = KeepsShared_refl (map view c.args.operands.now.items);
       bounds = start_bounds view c.args.operands.now.items c.in_ok-first.field-0.now first c.in_ok-key.key c.in_ok-key.ensures.first c.peek.ensures.ranked;
       is_among = start_among view c.args.operands.now.items c.in_ok-first.field-0.now first c.in_ok-key.key c.in_ok-key.ensures.first;
+      parts = IsPart_refl (map view c.args.operands.now.items);
       counted = omega arith;
       paid = start_paid c.args.moves.now c.in_ok-key.key (map view c.args.operands.now.items);
     }
@@ -108,6 +109,7 @@ loop-at-preserved g c =
       keeps = KeepsShared_trans inits mids news c.loop-at.invariant.keeps (asked_keeps c.loop-at.key c.ask_all.result mids news c.ask_all.ensures.asked);
       bounds = asked_bounds c.loop-at.key c.ask_all.result mids news c.ask_all.ensures.asked c.in_ok-at.at c.in_ok-at.was;
       is_among = reached.is_among;
+      parts = λ i. IsPart_trans (get_or inits i []) (get_or mids i []) (get_or news i []) (c.loop-at.invariant.parts i) (c.ask_all.ensures.asked.parts i);
       counted = omega (arith, c.loop-at.invariant.counted, c.ask_all.ensures.counted);
       paid = round_paid c.args.moves.now c.loop-at.moves c.ask_all.new.moves c.loop-at.key c.ask_all.result inits mids news c.loop-at.invariant.paid c.loop-at.invariant.keeps.count
           (omega (arith, c.ask_all.ensures.few, c.loop-at.operands.ok.0, c.loop-at.invariant.keeps.count, length-map c.loop-at.operands.items view)) c.ask_all.ensures.asked c.in_ok-at.at c.in_ok-at.was
@@ -133,3 +135,18 @@ returns-then-is_eq-clause-enough g c =
     let each = c.ask_all.ensures.enough c.in_ok-at.at c.in_ok-at.was in
     enough_all c.args.moves.now c.ask_all.new.moves (vec_len c.args.operands.now) (common (map view c.ask_all.new.operands.items))
     (omega (arith, each, c.loop-at.invariant.counted, c.loop-at.operands.ok.0, c.args.operands.now.ok.0, c.loop-at.invariant.keeps.count, length-map c.loop-at.operands.items view, length-map c.args.operands.now.items view))
+
+pub returns-in_err-key-clause-parts : goal.returns-in_err-key-clause-parts
+returns-in_err-key-clause-parts g c = IsPart_refl (map g.C.DocCursor.remaining c.args.operands.now.items)
+
+pub returns-in_err-at-clause-parts : goal.returns-in_err-at-clause-parts
+returns-in_err-at-clause-parts g c i =
+    let view = g.C.DocCursor.remaining in
+    IsPart_trans (get_or (map view c.args.operands.now.items) i []) (get_or (map view c.loop-at.operands.items) i []) (get_or (map view c.ask_all.new.operands.items) i [])
+    (c.loop-at.invariant.parts i) (c.ask_all.ensures.asked.parts i)
+
+pub returns-then-is_eq-clause-parts : goal.returns-then-is_eq-clause-parts
+returns-then-is_eq-clause-parts g c i =
+    let view = g.C.DocCursor.remaining in
+    IsPart_trans (get_or (map view c.args.operands.now.items) i []) (get_or (map view c.loop-at.operands.items) i []) (get_or (map view c.ask_all.new.operands.items) i [])
+    (c.loop-at.invariant.parts i) (c.ask_all.ensures.asked.parts i)

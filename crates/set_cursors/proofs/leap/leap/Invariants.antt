@@ -1,7 +1,7 @@
-use Rattle.std.proofs.Common.{◌≡◌, ◌<◌, ◌≤◌, true, length, map, vec_len}
+use Rattle.std.proofs.Common.{◌≡◌, ℕ, ◌<◌, ◌≤◌, true, [], get_or, length, map, vec_len}
 use Rattle.uni_base.specs.Cursors.{keys_from}
 use Rattle.uni_base.specs.KeySets.{has_key, united}
-use Rattle.set_cursors.specs.Leaps.{HasNoCommonBefore}
+use Rattle.set_cursors.specs.Leaps.{HasNoCommonBefore, IsPart}
 use Rattle.set_cursors.proofs.Shared.{KeepsShared}
 use Rattle.set_cursors.proofs.Weights.{HasPaid}
 use Rattle.set_cursors.proofs.leap.leap.Given as goal
@@ -15,6 +15,7 @@ invariant-loop-at g l =
       keeps : KeepsShared olds nows;
       bounds : HasNoCommonBefore l.key nows;
       is_among : has_key (united nows) l.key ≡ true;
+      parts : (i : ℕ) → IsPart (get_or olds i []) (get_or nows i []);
       counted : l.initial.moves ≤ l.moves;
       paid : HasPaid l.initial.moves l.moves l.key olds nows;
     }

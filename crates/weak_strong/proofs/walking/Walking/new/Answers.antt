@@ -7,8 +7,8 @@ use Rattle.weak_strong.specs.Marks.{counter_of}
 use Rattle.weak_strong.proofs.Settled.{owns_up}
 use Rattle.weak_strong.proofs.walking.Walking.new.Goals as goal
 
-pub settle-requires : goal.settle-requires
-settle-requires g c = record {
+pub settle-at-requires : goal.settle-at-requires
+settle-at-requires g c = record {
   count =
       length-map c.as_slice.result.now counter_of ∙ ap length c.as_slice.ensures.value ∙ c.requires.count
       ∙ ap length (sym c.new-candidates.ensures) ∙ sym (length-map c.new-candidates.result g.C.DocCursor.remaining);

@@ -1,8 +1,10 @@
 use Rattle.std.proofs.Common.{◌∙◌, ap, sym, subst, map, slice_get}
 use Rattle.uni_base.specs.Cursors.{IsRanked, keys_from}
+use Rattle.uni_base.specs.KeySets.{KeepsKeys}
 use Rattle.uni_base.specs.RankOrder.{doc_cmp}
 use Rattle.weak_strong.specs.declared.rule.Rule.{Rule}
 use Rattle.weak_strong.specs.Walking.{walk_of}
+use Rattle.weak_strong.proofs.Leapt.{sought_operands}
 use Rattle.weak_strong.proofs.Whole.{none_from, not_before-ge, sought_here, sought_end}
 use Rattle.weak_strong.proofs.walking.Walking.seek.Goals as goal
 
@@ -24,3 +26,19 @@ returns-clause-walk g c =
     (ap (λ (r : Rule). slice_get (walk_of r (map view c.loop-key.self.1) c.loop-key.self.2 c.loop-key.self.3) 0) (sym c.loop-key.invariant.stays)
     ∙ sym c.peek.ensures.first ∙ none_from c.peek.result c.in_default.not-Some)
     c.loop-key.invariant.walk
+
+pub returns-then-needs_all-clause-walk : goal.returns-then-needs_all-clause-walk
+returns-then-needs_all-clause-walk g c =
+    let view = g.C.DocCursor.remaining in
+    ap (λ (r : Rule). walk_of r (map view c.leap.new.self.1) c.leap.new.self.2 c.leap.new.self.3) (sym c.loop-key.invariant.stays) ∙ c.leap.ensures.walk
+    ∙ ap (λ (r : Rule). keys_from c.args.from (walk_of r (map view c.loop-key.self.1) c.loop-key.self.2 c.loop-key.self.3)) c.loop-key.invariant.stays ∙ c.loop-key.invariant.walk
+
+pub returns-then-needs_all-clause-operands : goal.returns-then-needs_all-clause-operands
+returns-then-needs_all-clause-operands g c =
+    let view = g.C.DocCursor.remaining in
+    subst (λ (r : Rule). KeepsKeys (walk_of r (map view c.leap.new.self.1) c.leap.new.self.2 c.leap.new.self.3) (map view c.args.self.now.1) (map view c.leap.new.self.1)) c.loop-key.invariant.stays
+    (sought_operands c.args.from (walk_of c.loop-key.self.0 (map view c.loop-key.self.1) c.loop-key.self.2 c.loop-key.self.3)
+    (walk_of c.loop-key.self.0 (map view c.leap.new.self.1) c.leap.new.self.2 c.leap.new.self.3) (map view c.args.self.now.1) (map view c.loop-key.self.1) (map view c.leap.new.self.1) c.leap.ensures.walk
+    (subst (λ (r : Rule). KeepsKeys (walk_of r (map view c.loop-key.self.1) c.loop-key.self.2 c.loop-key.self.3) (map view c.args.self.now.1) (map view c.loop-key.self.1)) (sym c.loop-key.invariant.stays)
+    c.loop-key.invariant.operands)
+    c.leap.ensures.operands)

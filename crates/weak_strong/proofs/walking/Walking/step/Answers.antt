@@ -11,40 +11,40 @@ use Rattle.weak_strong.proofs.walking.Walking.step.Goals as goal
 
 pub next-kept-requires : goal.next-kept-requires
 next-kept-requires g c =
-    c.self.invariant.counted.kept_before c.in-Some.key (first_among (united (map g.C.DocCursor.remaining c.self.inside.candidates)) c.in-Some.key (sym c.in-Some.ensures.first))
+    c.self.invariant.counted.kept_before c.in-Some.key (first_among (united (map g.C.DocCursor.remaining c.self.inside.candidates)) c.in-Some.key (c.self.invariant.settled.stands c.in-Some.key c.in-Some.is))
 
 pub count-requires-clause-owns : goal.count-requires-clause-owns
 count-requires-clause-owns g c = owns_below c.self.inside.counters.items c.self.inside.kept c.next-kept.result c.self.invariant.counted.owns c.next-kept.ensures.value
 
-pub settle-requires : goal.settle-requires
-settle-requires g c =
+pub settle-self-inside-requires : goal.settle-self-inside-requires
+settle-self-inside-requires g c =
     let view = g.C.DocCursor.remaining in
     subst (λ (cs : List Counter). IsCounted (map view c.step.new.self) (map counter_of cs) c.next-kept.result) (sym c.as_slice.ensures.value)
     (counted_next (map view c.self.inside.candidates) (map view c.step.new.self) (map counter_of c.self.inside.counters.items) c.count.new.counters.items c.self.inside.kept c.next-kept.result c.in-Some.key
-    c.self.invariant.counted c.in-Some.ensures.first c.next-kept.ensures.value c.next-kept.ensures.rank c.next-kept.ensures.id c.step.ensures.after c.step.ensures.operands
+    c.self.invariant.counted (sym (c.self.invariant.settled.stands c.in-Some.key c.in-Some.is)) c.next-kept.ensures.value c.next-kept.ensures.rank c.next-kept.ensures.id c.step.ensures.after c.step.ensures.operands
     (c.count.ensures.count ∙ sym (length-map c.self.inside.candidates view)) c.count.ensures.owns)
 
 pub returns-in_default-clause-walk : goal.returns-in_default-clause-walk
 returns-in_default-clause-walk g c =
-    whole_end g.C.DocCursor.remaining c.args.self.now c.self.inside.rule c.self.inside.candidates (map counter_of c.self.inside.counters.items) c.self.inside.kept c.self.view_is c.self.invariant.settled
-    (sym c.peek.ensures.first ∙ none_from c.peek.result c.in_default.not-Some)
+    whole_end g.C.DocCursor.remaining c.args.self.now c.self.inside.rule c.self.inside.candidates (map counter_of c.self.inside.counters.items) c.self.inside.kept c.self.view_is c.self.inside.at c.self.invariant.settled
+    (none_from c.self.inside.at c.in_default.not-Some)
 
 pub returns-in-Some-clause-walk : goal.returns-in-Some-clause-walk
 returns-in-Some-clause-walk g c =
     stepped_walk g.C.DocCursor.remaining c.args.self.now c.self.inside.rule c.self.inside.candidates (map counter_of c.self.inside.counters.items) (map counter_of c.count.new.counters.items) c.self.inside.kept c.next-kept.result
-    c.self.view_is c.self.invariant.settled c.in-Some.key c.in-Some.ensures.first c.next-kept.ensures.value c.count.ensures.walked (map g.C.DocCursor.remaining c.step.new.self)
-    (map g.C.DocCursor.remaining c.settle.new.candidates) c.step.ensures.after c.step.ensures.operands
-    (subst (λ (cs : List Counter). walk_of c.self.inside.rule (map g.C.DocCursor.remaining c.settle.new.candidates) (map counter_of cs) c.next-kept.result
-    ≡ walk_of c.self.inside.rule (map g.C.DocCursor.remaining c.step.new.self) (map counter_of cs) c.next-kept.result) c.as_slice.ensures.value c.settle.ensures.walk)
-    (subst (λ (cs : List Counter). KeepsKeys (walk_of c.self.inside.rule (map g.C.DocCursor.remaining c.settle.new.candidates) (map counter_of cs) c.next-kept.result)
-    (map g.C.DocCursor.remaining c.step.new.self) (map g.C.DocCursor.remaining c.settle.new.candidates)) c.as_slice.ensures.value c.settle.ensures.operands)
+    c.self.view_is c.self.inside.at c.self.invariant.settled c.in-Some.key c.in-Some.is c.next-kept.ensures.value c.count.ensures.walked (map g.C.DocCursor.remaining c.step.new.self)
+    (map g.C.DocCursor.remaining c.settle-self-inside.new.candidates) c.step.ensures.after c.step.ensures.operands
+    (subst (λ (cs : List Counter). walk_of c.self.inside.rule (map g.C.DocCursor.remaining c.settle-self-inside.new.candidates) (map counter_of cs) c.next-kept.result
+    ≡ walk_of c.self.inside.rule (map g.C.DocCursor.remaining c.step.new.self) (map counter_of cs) c.next-kept.result) c.as_slice.ensures.value c.settle-self-inside.ensures.walk)
+    (subst (λ (cs : List Counter). KeepsKeys (walk_of c.self.inside.rule (map g.C.DocCursor.remaining c.settle-self-inside.new.candidates) (map counter_of cs) c.next-kept.result)
+    (map g.C.DocCursor.remaining c.step.new.self) (map g.C.DocCursor.remaining c.settle-self-inside.new.candidates)) c.as_slice.ensures.value c.settle-self-inside.ensures.operands)
 
 pub returns-in-Some-clause-operands : goal.returns-in-Some-clause-operands
 returns-in-Some-clause-operands g c =
     stepped_operands g.C.DocCursor.remaining c.args.self.now c.self.inside.rule c.self.inside.candidates (map counter_of c.self.inside.counters.items) (map counter_of c.count.new.counters.items) c.self.inside.kept c.next-kept.result
-    c.self.view_is c.self.invariant.settled c.in-Some.key c.in-Some.ensures.first c.next-kept.ensures.value c.count.ensures.walked (map g.C.DocCursor.remaining c.step.new.self)
-    (map g.C.DocCursor.remaining c.settle.new.candidates) c.step.ensures.after c.step.ensures.operands
-    (subst (λ (cs : List Counter). walk_of c.self.inside.rule (map g.C.DocCursor.remaining c.settle.new.candidates) (map counter_of cs) c.next-kept.result
-    ≡ walk_of c.self.inside.rule (map g.C.DocCursor.remaining c.step.new.self) (map counter_of cs) c.next-kept.result) c.as_slice.ensures.value c.settle.ensures.walk)
-    (subst (λ (cs : List Counter). KeepsKeys (walk_of c.self.inside.rule (map g.C.DocCursor.remaining c.settle.new.candidates) (map counter_of cs) c.next-kept.result)
-    (map g.C.DocCursor.remaining c.step.new.self) (map g.C.DocCursor.remaining c.settle.new.candidates)) c.as_slice.ensures.value c.settle.ensures.operands)
+    c.self.view_is c.self.inside.at c.self.invariant.settled c.in-Some.key c.in-Some.is c.next-kept.ensures.value c.count.ensures.walked (map g.C.DocCursor.remaining c.step.new.self)
+    (map g.C.DocCursor.remaining c.settle-self-inside.new.candidates) c.step.ensures.after c.step.ensures.operands
+    (subst (λ (cs : List Counter). walk_of c.self.inside.rule (map g.C.DocCursor.remaining c.settle-self-inside.new.candidates) (map counter_of cs) c.next-kept.result
+    ≡ walk_of c.self.inside.rule (map g.C.DocCursor.remaining c.step.new.self) (map counter_of cs) c.next-kept.result) c.as_slice.ensures.value c.settle-self-inside.ensures.walk)
+    (subst (λ (cs : List Counter). KeepsKeys (walk_of c.self.inside.rule (map g.C.DocCursor.remaining c.settle-self-inside.new.candidates) (map counter_of cs) c.next-kept.result)
+    (map g.C.DocCursor.remaining c.step.new.self) (map g.C.DocCursor.remaining c.settle-self-inside.new.candidates)) c.as_slice.ensures.value c.settle-self-inside.ensures.operands)

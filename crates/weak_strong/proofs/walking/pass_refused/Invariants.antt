@@ -2,7 +2,7 @@ use Rattle.std.proofs.Common.{◌≡◌, length, map}
 use Rattle.uni_base.specs.KeySets.{united, KeepsKeys}
 use Rattle.weak_strong.specs.Marks.{counter_of}
 use Rattle.weak_strong.specs.Walking.{IsCounted, walk_of}
-use Rattle.weak_strong.proofs.walking.settle.Given as goal
+use Rattle.weak_strong.proofs.walking.pass_refused.Given as goal
 
 abbrev pub invariant-loop-key : goal.invariant-loop-key
 invariant-loop-key g l =
