@@ -61,3 +61,21 @@ fn the_first_list_that_is_accepted_whole(rt: HostRuntime) -> Result<(), Fail> {
     assert_eq!(rt; edges.as_slice(), [shown.edge].as_slice());
     Ok(())
 }
+
+#[test]
+fn trees_without_members(rt: HostRuntime) -> Result<(), Fail> {
+    let alloc = rt.alloc();
+    let book = LineageBook::new(alloc);
+    let judge = |held: &Held| held.audience == Audience::Public;
+    let verdicts = book.judge(alloc, &judge)?;
+    let any = Lineage::AnyOf(Vec::new(alloc));
+    assert!(rt; !any.holds(&verdicts, &judge));
+    assert!(rt; any.first(alloc, &book, &verdicts, &judge)?.is_none());
+    let all = Lineage::AllOf(Vec::new(alloc));
+    assert!(rt; all.holds(&verdicts, &judge));
+    let edges = all
+        .first(alloc, &book, &verdicts, &judge)?
+        .ok_or("no list")?;
+    assert!(rt; edges.as_slice().is_empty());
+    Ok(())
+}

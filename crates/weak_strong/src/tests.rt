@@ -1,4 +1,4 @@
-ghost use Rattle.std.specs.Prelude.{option_to_list};
+ghost use Rattle.std.specs.Prelude.{◌≤◌, option_to_list};
 
 use crate::{Fraction, StrongOrCursor, WeakAndCursor, WeakMark};
 use set_cursors::{AndCursor, DifferenceCursor, OrCursor};
@@ -6,8 +6,21 @@ use std::alloc::Global;
 use std::test::Fail;
 use uni_base::{DocCursor, DocKey, EntityId, Rank};
 
+mod random;
+
 // Entities in rank order, with their ranks.
-const RANKED: [(u64, u32); 6] = [(2, 90), (3, 90), (5, 70), (6, 60), (1, 50), (4, 10)];
+const RANKED: [(u64, u32); 10] = [
+    (2, 90),
+    (3, 90),
+    (7, 80),
+    (5, 70),
+    (6, 60),
+    (8, 60),
+    (1, 50),
+    (9, 50),
+    (4, 10),
+    (10, 10),
+];
 
 const FRIENDS: [u64; 3] = [2, 3, 5];
 
@@ -37,14 +50,14 @@ impl DocCursor for OneKey {
     }
 }
 
-// What is asked of two lists of entities, the first of which has the mark.
+// What is asked of two lists of entities, each with a mark.
 #[derive(Clone, Copy)]
 enum Question {
     And,
     Or,
     Difference,
-    Weak(WeakMark),
-    Strong(Option<Fraction>),
+    Weak(WeakMark, WeakMark),
+    Strong(Option<Fraction>, Option<Fraction>),
 }
 
 fn key(id: u64) -> Option<DocKey> {
@@ -72,6 +85,19 @@ fn pair(alloc: Global, a: &[u64], b: &[u64]) -> Result<Vec<OrCursor<OneKey>>, Fa
     operands.push(list(alloc, a)?)?;
     operands.push(list(alloc, b)?)?;
     Ok(operands)
+}
+
+fn weak(
+    alloc: Global,
+    a: &[u64],
+    first: WeakMark,
+    b: &[u64],
+    second: WeakMark,
+) -> Result<WeakAndCursor<OrCursor<OneKey>>, Fail> {
+    let mut operands = Vec::new(alloc);
+    operands.push((list(alloc, a)?, first))?;
+    operands.push((list(alloc, b)?, second))?;
+    Ok(WeakAndCursor::new(alloc, operands)?)
 }
 
 // The keys that a cursor has from a key on, or from its first on.
@@ -107,16 +133,11 @@ fn answer(
             let mut cursor = DifferenceCursor::new(list(alloc, a)?, list(alloc, b)?);
             keys(alloc, &mut cursor, from)
         }
-        Question::Weak(mark) => {
+        Question::Weak(first, second) => keys(alloc, &mut weak(alloc, a, first, b, second)?, from),
+        Question::Strong(first, second) => {
             let mut operands = Vec::new(alloc);
-            operands.push((list(alloc, a)?, mark))?;
-            operands.push((list(alloc, b)?, WeakMark::Hits(0)))?;
-            keys(alloc, &mut WeakAndCursor::new(alloc, operands)?, from)
-        }
-        Question::Strong(weight) => {
-            let mut operands = Vec::new(alloc);
-            operands.push((list(alloc, a)?, weight))?;
-            operands.push((list(alloc, b)?, None))?;
+            operands.push((list(alloc, a)?, first))?;
+            operands.push((list(alloc, b)?, second))?;
             keys(alloc, &mut StrongOrCursor::new(alloc, operands)?, from)
         }
     }
@@ -135,66 +156,64 @@ fn ids_from(alloc: Global, ids: &[u64], from: u64) -> Result<Vec<u64>, Fail> {
     Ok(rest)
 }
 
+// A question whose second list has no mark.
+fn hits(left: u32) -> Question {
+    Question::Weak(WeakMark::Hits(left), WeakMark::Hits(0))
+}
+
+fn share(n: u32) -> Question
+    requires { (1 ≤ n) × (n ≤ 6) }
+{
+    Question::Weak(WeakMark::Weight(Fraction { n, d: 6 }), WeakMark::Hits(0))
+}
+
+fn floor(n: u32) -> Question
+    requires { (1 ≤ n) × (n ≤ 2) }
+{
+    Question::Strong(Some(Fraction { n, d: 2 }), None)
+}
+
 #[test]
 fn questions_have_these_keys_from_each_key_on(rt: HostRuntime) -> Result<(), Fail> {
-    let half = Fraction { n: 1, d: 2 };
-    let most = Fraction { n: 2, d: 3 };
-    let all = Fraction { n: 1, d: 1 };
     let none: &[u64] = &[];
-    let cases: [(Question, &[u64], &[u64], &[u64]); 18] = [
+    let cases: [(Question, &[u64], &[u64], &[u64]); 28] = [
         (Question::And, &FRIENDS, &ROMANS, &[2, 5]),
         (Question::And, &FRIENDS, none, none),
+        (Question::And, &FRIENDS, &FRIENDS, &FRIENDS),
+        (Question::And, &[2, 3], &[6, 4], none),
         (Question::Difference, &FRIENDS, &ROMANS, &[3]),
         (Question::Difference, &FRIENDS, &FRIENDS, none),
         (Question::Or, &FRIENDS, &ROMANS, &[2, 3, 5, 6, 4]),
         (Question::Or, none, none, none),
         (Question::Or, &[1], &[4], &[1, 4]),
+        // all friends may lack one hit, in one shard and in two
+        (hits(1), &FRIENDS, &ROMANS, &[2, 5, 6]),
+        (hits(1), &[2], &[2, 6, 4], &[2, 6]),
+        (hits(1), &[3, 5], &[5], &[5]),
+        // one friend fewer
+        (hits(1), &[2, 3], &ROMANS, &[2, 5]),
+        (hits(1), &[3], &[5], &[5]),
+        (hits(1), none, none, none),
+        (hits(0), &FRIENDS, &ROMANS, &[2, 5]),
+        // friends are a half, two thirds or all of the hits
+        (share(3), &[2], &[2, 6, 4], &[2, 6, 4]),
+        (share(3), &[3, 5], &[5], &[5]),
+        (share(4), &[2], &[2, 6, 4], &[2, 6]),
+        (share(4), &[3, 5], &[5], &[5]),
+        (share(6), &[2], &[2, 6, 4], &[2]),
+        (share(6), &[3, 5], &[5], &[5]),
+        // half of the hits live in Rome, also where one more friend follows the third
+        (floor(1), &ROMANS, &FRIENDS, &[2, 3, 5, 6, 4]),
+        (floor(1), &[2, 6, 4], &[2], &[2, 6, 4]),
+        (floor(1), &[5], &[3, 7, 5], &[3, 5]),
+        (floor(1), &[6, 4], &[3, 5, 6], &[3, 6, 4]),
+        (floor(2), &[6, 4], &FRIENDS, &[6, 4]),
         (
-            Question::Weak(WeakMark::Hits(1)),
+            Question::Strong(None, None),
             &FRIENDS,
             &ROMANS,
-            &[2, 5, 6],
-        ),
-        (Question::Weak(WeakMark::Hits(1)), &[2, 3], &ROMANS, &[2, 5]),
-        (
-            Question::Weak(WeakMark::Hits(0)),
-            &FRIENDS,
-            &ROMANS,
-            &[2, 5],
-        ),
-        (
-            Question::Weak(WeakMark::Weight(half)),
-            &[2],
-            &[2, 6, 4],
-            &[2, 6, 4],
-        ),
-        (
-            Question::Weak(WeakMark::Weight(most)),
-            &[2],
-            &[2, 6, 4],
-            &[2, 6],
-        ),
-        (
-            Question::Weak(WeakMark::Weight(all)),
-            &[2],
-            &[2, 6, 4],
-            &[2],
-        ),
-        (Question::Weak(WeakMark::Weight(all)), &[3, 5], &[5], &[5]),
-        (
-            Question::Strong(Some(half)),
-            &ROMANS,
-            &FRIENDS,
             &[2, 3, 5, 6, 4],
         ),
-        (
-            Question::Strong(Some(half)),
-            &[6, 4],
-            &[3, 5, 6],
-            &[3, 6, 4],
-        ),
-        (Question::Strong(Some(all)), &[6, 4], &FRIENDS, &[6, 4]),
-        (Question::Strong(None), &FRIENDS, &ROMANS, &[2, 3, 5, 6, 4]),
     ];
     for (question, a, b, want) in cases {
         let all = answer(rt.alloc(), question, a, b, None)?;
@@ -207,26 +226,31 @@ fn questions_have_these_keys_from_each_key_on(rt: HostRuntime) -> Result<(), Fai
     Ok(())
 }
 
-#[test]
-fn operands_stand_at_the_current_key(rt: HostRuntime) -> Result<(), Fail> {
-    let alloc = rt.alloc();
-    let mut inner = Vec::new(alloc);
-    inner.push((list(alloc, &FRIENDS)?, WeakMark::Hits(1)))?;
-    inner.push((list(alloc, &ROMANS)?, WeakMark::Hits(0)))?;
+// What all friends but one and all Romans are, and who lives in Oslo.
+fn nested(alloc: Global) -> Result<Vec<WeakAndCursor<OrCursor<OneKey>>>, Fail> {
     let mut operands = Vec::new(alloc);
-    operands.push(WeakAndCursor::new(alloc, inner)?)?;
-    let mut other = Vec::new(alloc);
-    other.push((list(alloc, &[4])?, WeakMark::Hits(0)))?;
-    operands.push(WeakAndCursor::new(alloc, other)?)?;
-    let mut cursor = OrCursor::new(operands);
-    let mut seen = Vec::new(alloc);
-    for _ in 0..RANKED.len() {
-        if let Some(key) = cursor.peek() {
-            seen.push(key.id.get())?;
-            cursor.step();
-        }
+    operands.push(weak(
+        alloc,
+        &FRIENDS,
+        WeakMark::Hits(1),
+        &ROMANS,
+        WeakMark::Hits(0),
+    )?)?;
+    operands.push(weak(alloc, &[4], WeakMark::Hits(0), &[4], WeakMark::Hits(0))?)?;
+    Ok(operands)
+}
+
+// A count is spent by what the inner cursor passes, whatever the outer one leaves out.
+#[test]
+fn cursors_of_one_type_nest(rt: HostRuntime) -> Result<(), Fail> {
+    let alloc = rt.alloc();
+    let either: &[u64] = &[2, 5, 6, 4];
+    let both: &[u64] = &[];
+    for (id, _) in RANKED {
+        let any = keys(alloc, &mut OrCursor::new(nested(alloc)?), key(id))?;
+        assert_eq!(rt; any.as_slice(), ids_from(alloc, either, id)?.as_slice());
+        let all = keys(alloc, &mut AndCursor::new(nested(alloc)?), key(id))?;
+        assert_eq!(rt; all.as_slice(), both);
     }
-    assert_eq!(rt; seen.as_slice(), [2, 5, 6, 4].as_slice());
-    assert_eq!(rt; cursor.peek(), None);
     Ok(())
 }
