@@ -89,13 +89,13 @@ module _ (rule : Rule) (kept : ℕ) (k : DocKey) (lists : List (List DocKey)) (c
   keeps_all = keeps_is rule kept k lists quotas counts first
 
   module _ (i : ℕ) (counter : Counter) (within : i < length counters) (is : counter ≡ get_or counters i counter) (has : Bool) (asked : has ≡ has_first (get_or lists i []) (united lists))
-      (allows : Bool) (allowed : allows ≡ allows_by rule kept has (quota_of counter.allowance) counter.own) where
+      (allows : Bool) (allowed : allows ≡ allows_by rule kept has (quota_of counter.mark) counter.own) where
     pub turn_is : all_allow rule kept k (drop i lists) (drop i quotas) ≡ (allows && all_allow rule kept k (drop (i + 1) lists) (drop (i + 1) quotas))
     turn_is =
         all_allow-drop rule kept k lists quotas i (counter_of counter) (omega (arith, as_many)) (omega (arith, length-map counters counter_of))
         ∙ ap (λ (c : Quota × ℕ). allows_by rule kept (has_key (get_or lists i []) k) c.0 c.1 && all_allow rule kept k (drop (suc i) lists) (drop (suc i) quotas))
         (get_or-map counter_of counters i counter (counter_of counter) within ∙ ap counter_of (sym is))
-        ∙ ap (λ h. allows_by rule kept h (quota_of counter.allowance) counter.own && all_allow rule kept k (drop (suc i) lists) (drop (suc i) quotas))
+        ∙ ap (λ h. allows_by rule kept h (quota_of counter.mark) counter.own && all_allow rule kept k (drop (suc i) lists) (drop (suc i) quotas))
         (sym (asked ∙ has_first-is (get_or lists i []) (united lists) k first))
         ∙ ap (λ b. b && all_allow rule kept k (drop (suc i) lists) (drop (suc i) quotas)) (sym allowed)
         ∙ ap (λ (n : ℕ). allows && all_allow rule kept k (drop n lists) (drop n quotas)) (one_more i)
@@ -171,9 +171,9 @@ own_counted old new has next counts below = let e = ap (λ (c : Quota × ℕ). c
     by false = omega arith
 
 -- counters of which none has counted yet
-pub fresh_counters : (counters : List Counter) → All (λ (c : Counter). c.own ≡ 0) counters → map counter_of counters ≡ map (λ (q : Quota). (q, 0)) (map (λ (c : Counter). quota_of c.allowance) counters)
+pub fresh_counters : (counters : List Counter) → All (λ (c : Counter). c.own ≡ 0) counters → map counter_of counters ≡ map (λ (q : Quota). (q, 0)) (map (λ (c : Counter). quota_of c.mark) counters)
 fresh_counters [] fresh = refl
 fresh_counters (c ∷ counters) fresh =
     let own = All-head (λ (x : Counter). x.own ≡ 0) c counters fresh in
-    ap (λ (n : ℕ). (quota_of c.allowance, n) ∷ map counter_of counters) own
-    ∙ ap (λ (cs : List (Quota × ℕ)). (quota_of c.allowance, 0) ∷ cs) (fresh_counters counters (All-tail (λ (x : Counter). x.own ≡ 0) c counters fresh))
+    ap (λ (n : ℕ). (quota_of c.mark, n) ∷ map counter_of counters) own
+    ∙ ap (λ (cs : List (Quota × ℕ)). (quota_of c.mark, 0) ∷ cs) (fresh_counters counters (All-tail (λ (x : Counter). x.own ≡ 0) c counters fresh))

@@ -19,7 +19,7 @@ use Rattle.set_cursors.proofs.Shared.{all_have, all_have_same, common_all, has_k
 use Rattle.weak_strong.specs.declared.rule.Rule.{Rule}
 use Rattle.weak_strong.specs.declared.rule.Rule.TheVariants.{Weak, Strong}
 use Rattle.weak_strong.specs.Rules.{needs_all, walkers}
-use Rattle.weak_strong.specs.Walking.{IsCounted, IsWalking, walk_of}
+use Rattle.weak_strong.specs.Walking.{HasSettled, IsCounted, IsWalking, walk_of}
 use Rattle.weak_strong.proofs.Settled.{walk_of-united}
 use Rattle.weak_strong.proofs.Whole.{Whole, keys_of, whole_keys}
 use Rattle.weak_strong.proofs.Counting.{all_allow, first_among, keeps_is}
@@ -70,22 +70,20 @@ module _ (rule : Rule) (olds news : List (List DocKey)) (counters : List (Quota 
   count : length counters ≡ length news
   count = counted.count ∙ sym operands.count
 
-  pub leapt_walk : walk_of rule news counters kept ≡ walk_of rule olds counters kept
-  leapt_walk = walk_of-common rule news counters kept needs count ∙ keys ∙ sym (walk_of-common rule olds counters kept needs counted.count)
-
-  pub leapt_operands : KeepsKeys (walk_of rule news counters kept) olds news
-  leapt_operands = subst (λ (ks : List DocKey). KeepsKeys ks olds news) (sym (walk_of-common rule news counters kept needs count)) operands
-
-  pub leapt_walking : IsWalking rule news counters kept at
-  leapt_walking = record {
-    counted = record { count = count; kept_before = λ k has. counted.kept_before k (within k has); owns = counted.owns };
-    settled = record {
-      stands = stands;
-      keeps = λ k e.
-          keeps_is rule kept k news counters count (stands k e)
-          ∙ all_kept rule kept k news counters needs (common_all news k (first_among (common news) k (ap (λ (ks : List DocKey). slice_get ks 0) keys ∙ sym first ∙ e)));
-      over = λ e. walk_of-common rule news counters kept needs count ∙ keys ∙ empty (common olds) (sym first ∙ e);
+  pub leapt : HasSettled rule counters kept olds news at
+  leapt = record {
+    walking = record {
+      counted = record { count = count; kept_before = λ k has. counted.kept_before k (within k has); owns = counted.owns };
+      settled = record {
+        stands = stands;
+        keeps = λ k e.
+            keeps_is rule kept k news counters count (stands k e)
+            ∙ all_kept rule kept k news counters needs (common_all news k (first_among (common news) k (ap (λ (ks : List DocKey). slice_get ks 0) keys ∙ sym first ∙ e)));
+        over = λ e. walk_of-common rule news counters kept needs count ∙ keys ∙ empty (common olds) (sym first ∙ e);
+      };
     };
+    walk = walk_of-common rule news counters kept needs count ∙ keys ∙ sym (walk_of-common rule olds counters kept needs counted.count);
+    operands = subst (λ (ks : List DocKey). KeepsKeys ks olds news) (sym (walk_of-common rule news counters kept needs count)) operands;
   }
     where
       empty : (ks : List DocKey) → slice_get ks 0 ≡ None → ks ≡ []
@@ -139,13 +137,13 @@ module _ (from : DocKey) (olds mids : List (List DocKey)) (sought : united mids 
 -- ---- a test of each counter
 
 module _ (counters : List Counter) (i : ℕ) (counter : Counter) (within : i < length counters) (is : counter ≡ get_or counters i counter) where
-  here : (b : Bool) → b ≡ is_bare (quota_of counter.allowance) → is_bare (get_or (map counter_of counters) i (counter_of counter)).0 ≡ b
+  here : (b : Bool) → b ≡ is_bare (quota_of counter.mark) → is_bare (get_or (map counter_of counters) i (counter_of counter)).0 ≡ b
   here b e = ap (λ (c : Quota × ℕ). is_bare c.0) (get_or-map counter_of counters i counter (counter_of counter) within ∙ ap counter_of (sym is)) ∙ sym e
 
-  pub not_bare : (b : Bool) → b ≡ is_bare (quota_of counter.allowance) → b ≡ false → false ≡ needs_all Weak (map counter_of counters)
+  pub not_bare : (b : Bool) → b ≡ is_bare (quota_of counter.mark) → b ≡ false → false ≡ needs_all Weak (map counter_of counters)
   not_bare b e fails = sym (list_all_at (λ (c : Quota × ℕ). is_bare c.0) (map counter_of counters) i (counter_of counter) (omega (arith, length-map counters counter_of)) (here b e ∙ fails))
 
-  pub bare_more : (b : Bool) → b ≡ is_bare (quota_of counter.allowance) → b ≡ true → list_all (λ (c : Quota × ℕ). is_bare c.0) (take i (map counter_of counters)) ≡ true
+  pub bare_more : (b : Bool) → b ≡ is_bare (quota_of counter.mark) → b ≡ true → list_all (λ (c : Quota × ℕ). is_bare c.0) (take i (map counter_of counters)) ≡ true
       → list_all (λ (c : Quota × ℕ). is_bare c.0) (take (i + 1) (map counter_of counters)) ≡ true
   bare_more b e passes so_far =
       list_all_more (λ (c : Quota × ℕ). is_bare c.0) (map counter_of counters) i (counter_of counter) (omega (arith, length-map counters counter_of))
@@ -156,6 +154,11 @@ bare_all counters i past all = sym (ap (list_all (λ (c : Quota × ℕ). is_bare
 
 -- ---- a whole walk leaps to a key
 
+pub record HasLeaptTo {C : Type 0} (view : C → List DocKey) (v : Whole C) (rule : Rule) (counters : List (Quota × ℕ)) (kept : ℕ) (from : DocKey) (news : List (List DocKey)) (at : Option DocKey) : Type 0 where
+  pub walking : IsWalking rule news counters kept at
+  pub walk : walk_of v.0 news counters kept ≡ keys_from from (keys_of view v)
+  pub operands : KeepsKeys (walk_of v.0 news counters kept) (map view v.1) news
+
 module _ {C : Type 0} (view : C → List DocKey) (v : Whole C) (rule : Rule) (cands : List C) (counters : List (Quota × ℕ)) (kept : ℕ) (is : (rule, cands, counters, kept) ≡ v) (needs : needs_all v.0 v.2 ≡ true)
     (counted : IsCounted (map view cands) counters kept) (from : DocKey) (mids news : List (List DocKey)) (sought : united mids ≡ keys_from from (united (map view cands))) (keeps : KeepsKeys (united mids) (map view cands) mids)
     (at : Option DocKey) (first : at ≡ slice_get (common mids) 0) (stands : (k : DocKey) → at ≡ Some k → slice_get (united news) 0 ≡ Some k) (keys : common news ≡ common mids)
@@ -163,26 +166,20 @@ module _ {C : Type 0} (view : C → List DocKey) (v : Whole C) (rule : Rule) (ca
   needs_here : needs_all rule counters ≡ true
   needs_here = ap (λ (w : Whole C). needs_all w.0 w.2) is ∙ needs
 
-  counted_mid : IsCounted mids counters kept
-  counted_mid = sought_counted from (map view cands) mids sought keeps rule counters kept needs_here counted
+  settled : HasSettled rule counters kept mids news at
+  settled = leapt rule mids news counters kept at needs_here (sought_counted from (map view cands) mids sought keeps rule counters kept needs_here counted) first stands keys operands within
 
-  pub whole_leapt_walking : IsWalking rule news counters kept at
-  whole_leapt_walking = leapt_walking rule mids news counters kept at needs_here counted_mid first stands keys operands within
-
-  same_walk : walk_of rule news counters kept ≡ walk_of rule mids counters kept
-  same_walk = leapt_walk rule mids news counters kept at needs_here counted_mid first stands keys operands within
-
-  pub whole_leapt_walk : walk_of v.0 news counters kept ≡ keys_from from (keys_of view v)
-  whole_leapt_walk =
-      ap (λ (w : Whole C). walk_of w.0 news counters kept) (sym is) ∙ same_walk ∙ sought_walk from (map view cands) mids sought keeps rule counters kept needs_here counted
-      ∙ ap (keys_from from) (whole_keys view v rule cands counters kept is)
-
-  pub whole_leapt_operands : KeepsKeys (walk_of v.0 news counters kept) (map view v.1) news
-  whole_leapt_operands =
-      subst (λ (w : Whole C). KeepsKeys (walk_of w.0 news counters kept) (map view w.1) news) is
-      (KeepsKeys_trans (united mids) (walk_of rule news counters kept) (map view cands) mids news
-      (λ k has. walk_of-united rule mids counters kept k (ap (λ (ks : List DocKey). has_key ks k) (sym same_walk) ∙ has)) keeps
-      (leapt_operands rule mids news counters kept at needs_here counted_mid first stands keys operands within))
+  pub leapt_to : HasLeaptTo view v rule counters kept from news at
+  leapt_to = record {
+    walking = settled.walking;
+    walk =
+        ap (λ (w : Whole C). walk_of w.0 news counters kept) (sym is) ∙ settled.walk ∙ sought_walk from (map view cands) mids sought keeps rule counters kept needs_here counted
+        ∙ ap (keys_from from) (whole_keys view v rule cands counters kept is);
+    operands =
+        subst (λ (w : Whole C). KeepsKeys (walk_of w.0 news counters kept) (map view w.1) news) is
+        (KeepsKeys_trans (united mids) (walk_of rule news counters kept) (map view cands) mids news
+        (λ k has. walk_of-united rule mids counters kept k (ap (λ (ks : List DocKey). has_key ks k) (sym settled.walk) ∙ has)) keeps settled.operands);
+  }
 
 -- a seek after others
 pub sought_operands : (from : DocKey) (whole left : List DocKey) (olds mids news : List (List DocKey)) → left ≡ keys_from from whole → KeepsKeys whole olds mids → KeepsKeys left mids news → KeepsKeys left olds news

@@ -15,7 +15,7 @@ use Rattle.weak_strong.specs.declared.rule.Counter.{Counter}
 use Rattle.weak_strong.specs.declared.rule.Rule.{Rule}
 use Rattle.weak_strong.specs.Marks.{counter_of}
 use Rattle.weak_strong.specs.Rules.{walkers}
-use Rattle.weak_strong.specs.Walking.{IsCounted, IsSettled, walk_of}
+use Rattle.weak_strong.specs.Walking.{HasSettled, IsCounted, IsSettled, walk_of}
 use Rattle.weak_strong.proofs.Counting.{first_among}
 use Rattle.weak_strong.proofs.Placed.{place_later, rest_later}
 use Rattle.weak_strong.proofs.Settled.{IsRanked-walk_of, kept_on, owns_up, settled_first, walk_of-united}
@@ -115,13 +115,13 @@ module _ {C : Type 0} (view : C → List DocKey) (v : Whole C) (rule : Rule) (ca
     (at : Option DocKey) (settled : IsSettled rule (map view cands) before kept at) (key : DocKey) (here : at ≡ Some key) (one : next ≡ kept + 1)
     (counts : (k : DocKey) → slice_get (united (map view cands)) 0 ≡ Some k → walkers (map view cands) after ≡ map (walked k) (walkers (map view cands) before))
     (mids news : List (List DocKey)) (passed : united mids ≡ drop 1 (united (map view cands))) (keeps : KeepsKeys (united mids) (map view cands) mids)
-    (walks : walk_of rule news after next ≡ walk_of rule mids after next) (settles : KeepsKeys (walk_of rule news after next) mids news) where
+    (now : Option DocKey) (settles : HasSettled rule after next mids news now) where
   same_rule : rule ≡ v.0
   same_rule = ap (λ (w : Whole C). w.0) is
 
   pub stepped_walk : walk_of v.0 news after next ≡ drop 1 (keys_of view v)
   stepped_walk =
-      ap (λ (r : Rule). walk_of r news after next) (sym same_rule) ∙ walks ∙ ap (λ (n : ℕ). walk_of rule mids after n) one
+      ap (λ (r : Rule). walk_of r news after next) (sym same_rule) ∙ settles.walk ∙ ap (λ (n : ℕ). walk_of rule mids after n) one
       ∙ kept_on rule (map view cands) mids before after kept key (settled.stands key here) (settled.keeps key here) (counts key (settled.stands key here)) passed keeps
       ∙ ap (drop 1) (whole_keys view v rule cands before kept is)
 
@@ -129,7 +129,7 @@ module _ {C : Type 0} (view : C → List DocKey) (v : Whole C) (rule : Rule) (ca
   stepped_operands =
       subst (λ (w : Whole C). KeepsKeys (walk_of w.0 news after next) (map view w.1) news) is
       (KeepsKeys_trans (united mids) (walk_of rule news after next) (map view cands) mids news
-      (λ k has. walk_of-united rule mids after next k (ap (λ (ks : List DocKey). has_key ks k) (sym walks) ∙ has)) keeps settles)
+      (λ k has. walk_of-united rule mids after next k (ap (λ (ks : List DocKey). has_key ks k) (sym settles.walk) ∙ has)) keeps settles.operands)
 
 -- ---- a seek is over
 

@@ -4,8 +4,6 @@ use Rattle.uni_base.specs.Walks.{Quota, Unmarked, Count, Weight}
 use Rattle.weak_strong.specs.declared.fraction.Fraction.{Fraction}
 use Rattle.weak_strong.specs.declared.mark.WeakMark.{WeakMark}
 use Rattle.weak_strong.specs.declared.mark.WeakMark.TheVariants as marks
-use Rattle.weak_strong.specs.declared.rule.Allowance.{Allowance}
-use Rattle.weak_strong.specs.declared.rule.Allowance.TheVariants as allowances
 use Rattle.weak_strong.specs.declared.rule.Counter.{Counter}
 
 -- so many hits may lack the operand, or a share of them has it
@@ -18,11 +16,10 @@ abbrev pub strong_quota : Option Fraction → Quota
 strong_quota None = Unmarked
 strong_quota (Some fraction) = Weight fraction.n fraction.d
 
--- the same of what is left of a mark
-abbrev pub quota_of : Allowance → Quota
-quota_of allowances.Nothing = Unmarked
-quota_of (allowances.Hits left) = Count left
-quota_of (allowances.Weight fraction) = Weight fraction.n fraction.d
+-- the quota of an operand that may have a mark
+abbrev pub quota_of : Option WeakMark → Quota
+quota_of None = Unmarked
+quota_of (Some mark) = weak_quota mark
 
 abbrev pub counter_of : Counter → Quota × ℕ
-counter_of counter = (quota_of counter.allowance, counter.own)
+counter_of counter = (quota_of counter.mark, counter.own)

@@ -1,7 +1,7 @@
 -- A walk along the keys of several operands.
 use Rattle.std.specs.Prelude.{◌≡◌, ℕ, ◌≤◌, true, List, [], length, Option, None, Some, slice_get, All}
 use Rattle.uni_base.specs.declared.entity.DocKey.{DocKey}
-use Rattle.uni_base.specs.KeySets.{has_key, united}
+use Rattle.uni_base.specs.KeySets.{has_key, united, KeepsKeys}
 use Rattle.uni_base.specs.Walks.{Quota, weak_walk, strong_walk}
 use Rattle.weak_strong.specs.declared.rule.Rule.{Rule}
 use Rattle.weak_strong.specs.declared.rule.Rule.TheVariants.{Weak, Strong}
@@ -31,9 +31,9 @@ pub record IsWalking (rule : Rule) (lists : List (List DocKey)) (counters : List
   pub counted : IsCounted lists counters kept
   pub settled : IsSettled rule lists counters kept at
 
--- the keys of a weak walk, and of a strong one
-abbrev pub weak_keys : List (List DocKey) → List (Quota × ℕ) → ℕ → List DocKey
-weak_keys lists counters kept = weak_walk kept (walkers lists counters) (united lists)
-
-abbrev pub strong_keys : List (List DocKey) → List (Quota × ℕ) → ℕ → List DocKey
-strong_keys lists counters kept = strong_walk kept (walkers lists counters) (united lists)
+-- candidates were passed up to the first that the walk keeps: it keeps what it kept, and each operand has of
+-- that what it had
+pub record HasSettled (rule : Rule) (counters : List (Quota × ℕ)) (kept : ℕ) (olds news : List (List DocKey)) (at : Option DocKey) : Type 0 where
+  pub walking : IsWalking rule news counters kept at
+  pub walk : walk_of rule news counters kept ≡ walk_of rule olds counters kept
+  pub operands : KeepsKeys (walk_of rule news counters kept) olds news

@@ -4,15 +4,22 @@
 
 mod fraction;
 mod mark;
+mod quota;
 mod rule;
-mod strong;
+mod walk;
 mod walking;
-mod weak;
 
 pub use fraction::Fraction;
 pub use mark::WeakMark;
-pub use strong::StrongOrCursor;
-pub use weak::WeakAndCursor;
+pub use quota::QuotaCursor;
+pub use rule::Rule;
+pub use walk::{StrongWalk, Walk, WeakWalk};
+
+/// A cursor over the keys that a weak walk keeps of its operands.
+pub type WeakAndCursor<C> = QuotaCursor<WeakWalk, C>;
+
+/// A cursor over the keys that a strong walk keeps of its operands.
+pub type StrongOrCursor<C> = QuotaCursor<StrongWalk, C>;
 
 #[cfg(test)]
 mod tests;

@@ -4,27 +4,21 @@ ghost use Rattle.weak_strong.specs.Marks.{counter_of, quota_of};
 ghost use Rattle.weak_strong.specs.Rules.{allows_by, counted, needs_all};
 ghost use Rattle.weak_strong.specs.declared.rule.Rule.TheVariants.{Weak};
 
-use crate::Fraction;
+use crate::WeakMark;
 
-// Which walk is walked.
+/// Which walk is walked.
 #[derive(Clone, Copy)]
-pub(crate) enum Rule {
+pub enum Rule {
+    /// Every operand has each hit, as far as its mark does not let it be absent.
     Weak,
+    /// Some operand has each hit, and those with a weight have their share.
     Strong,
 }
 
-// What is left of an operand's mark.
-#[derive(Clone, Copy)]
-pub(crate) enum Allowance {
-    Nothing,
-    Hits(u32),
-    Weight(Fraction),
-}
-
-// An operand's mark, and how many of the kept keys it has.
+// What is left of an operand's mark, and how many of the kept keys it has.
 #[derive(Clone, Copy)]
 pub(crate) struct Counter {
-    pub(crate) allowance: Allowance,
+    pub(crate) mark: Option<WeakMark>,
     pub(crate) own: u128,
 }
 
@@ -33,21 +27,21 @@ impl Rule {
     pub(crate) fn allows(self, next: u128, has: bool, counter: &Counter) -> bool
         requires next { next ≤ 2 ^ 97 }
         requires own { counter.now.own < next }
-        ensures { result ≡ allows_by self (next - 1) has (quota_of counter.now.allowance) counter.now.own }
+        ensures { result ≡ allows_by self (next - 1) has (quota_of counter.now.mark) counter.now.own }
     {
         match self {
             Rule::Weak => {
-                has || match counter.allowance {
-                    Allowance::Nothing => false,
-                    Allowance::Hits(left) => left > 0,
-                    Allowance::Weight(fraction) => fraction.of(next) <= counter.own,
+                has || match counter.mark {
+                    None => false,
+                    Some(WeakMark::Hits(left)) => left > 0,
+                    Some(WeakMark::Weight(fraction)) => fraction.of(next) <= counter.own,
                 }
             }
             Rule::Strong => {
                 let own = counter.own + u128::from(has);
-                match counter.allowance {
-                    Allowance::Nothing | Allowance::Hits(_) => true,
-                    Allowance::Weight(fraction) => fraction.of(next) <= own,
+                match counter.mark {
+                    None | Some(WeakMark::Hits(_)) => true,
+                    Some(WeakMark::Weight(fraction)) => fraction.of(next) <= own,
                 }
             }
         }
@@ -81,12 +75,12 @@ fn all_bare(counters: &[Counter]) -> bool
 impl Counter {
     // Whether no key may be kept any more that the operand lacks, in a weak walk.
     pub(crate) fn is_bare(&self) -> bool
-        ensures { result ≡ is_bare (quota_of self.now.allowance) }
+        ensures { result ≡ is_bare (quota_of self.now.mark) }
     {
-        match self.allowance {
-            Allowance::Nothing => true,
-            Allowance::Hits(left) => left == 0,
-            Allowance::Weight(_) => false,
+        match self.mark {
+            None => true,
+            Some(WeakMark::Hits(left)) => left == 0,
+            Some(WeakMark::Weight(_)) => false,
         }
     }
 
@@ -97,16 +91,16 @@ impl Counter {
     {
         if has {
             return Counter {
-                allowance: self.allowance,
+                mark: self.mark,
                 own: self.own + 1,
             };
         }
-        let allowance = match self.allowance {
-            Allowance::Hits(left) => Allowance::Hits(left.saturating_sub(1)),
+        let mark = match self.mark {
+            Some(WeakMark::Hits(left)) => Some(WeakMark::Hits(left.saturating_sub(1))),
             other => other,
         };
         Counter {
-            allowance,
+            mark,
             own: self.own,
         }
     }

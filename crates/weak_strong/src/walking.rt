@@ -6,10 +6,11 @@ ghost use Rattle.uni_base.specs.Walks.{walked};
 ghost use Rattle.weak_strong.specs.Marks.{counter_of, quota_of};
 ghost use Rattle.weak_strong.specs.Places.{place_of};
 ghost use Rattle.weak_strong.specs.Rules.{keeps_by, needs_all, walkers};
-ghost use Rattle.weak_strong.specs.Walking.{IsCounted, IsWalking, walk_of};
+ghost use Rattle.weak_strong.specs.Walking.{HasSettled, IsCounted, walk_of};
 ghost use Rattle.uni_base.specs.declared.entity.DocKey.{DocKey as Keys};
 
-use crate::rule::{Allowance, Counter, Rule};
+use crate::WeakMark;
+use crate::rule::{Counter, Rule};
 use set_cursors::OrCursor;
 use std::alloc::{AllocError, Global};
 use std::marker::Model;
@@ -73,11 +74,8 @@ fn pass_refused<C: DocCursor>(
     kept: u128,
 ) -> Option<DocKey>
     requires { IsCounted (map C.remaining candidates.old) (map counter_of counters.now) kept }
-    ensures walking { IsWalking rule (map C.remaining candidates.new) (map counter_of counters.now) kept result }
-    ensures walk { walk_of rule (map C.remaining candidates.new) (map counter_of counters.now) kept
-        ≡ walk_of rule (map C.remaining candidates.old) (map counter_of counters.now) kept }
-    ensures operands { let olds = map C.remaining candidates.old in let news = map C.remaining candidates.new in
-        KeepsKeys (walk_of rule news (map counter_of counters.now) kept) olds news }
+    ensures { let olds = map C.remaining candidates.old in let news = map C.remaining candidates.new in
+        HasSettled rule (map counter_of counters.now) kept olds news result }
 {
     while let Some(key) = candidates.peek() {
         if is_kept(rule, candidates, counters, next(kept, key)) {
@@ -96,11 +94,8 @@ fn settle<C: DocCursor>(
     kept: u128,
 ) -> Option<DocKey>
     requires { IsCounted (map C.remaining candidates.old) (map counter_of counters.now) kept }
-    ensures walking { IsWalking rule (map C.remaining candidates.new) (map counter_of counters.now) kept result }
-    ensures walk { walk_of rule (map C.remaining candidates.new) (map counter_of counters.now) kept
-        ≡ walk_of rule (map C.remaining candidates.old) (map counter_of counters.now) kept }
-    ensures operands { let olds = map C.remaining candidates.old in let news = map C.remaining candidates.new in
-        KeepsKeys (walk_of rule news (map counter_of counters.now) kept) olds news }
+    ensures { let olds = map C.remaining candidates.old in let news = map C.remaining candidates.new in
+        HasSettled rule (map counter_of counters.now) kept olds news result }
 {
     if rule.needs_all(counters) {
         candidates.leap()
@@ -254,7 +249,7 @@ impl<C> Model for Parts<C> {
 
     ghost Value = { List C × List Quota };
 
-    ghost view = { λ p. (p.cursors.items, map (λ counter. quota_of counter.allowance) p.counters.items) };
+    ghost view = { λ p. (p.cursors.items, map (λ counter. quota_of counter.mark) p.counters.items) };
 
     ghost invariant = { λ p. (length p.counters.items ≡ length p.cursors.items) × All (λ counter. counter.own ≡ 0) p.counters.items };
 }
@@ -269,10 +264,10 @@ impl<C: Drop> Parts<C> {
         }
     }
 
-    pub(crate) fn push(&mut self, cursor: C, allowance: Allowance) -> Result<(), AllocError>
-        ensures { OnOk result (self.new ≡ (self.old.0 ++ cursor ∷ [], self.old.1 ++ quota_of allowance ∷ [])) }
+    pub(crate) fn push(&mut self, cursor: C, mark: Option<WeakMark>) -> Result<(), AllocError>
+        ensures { OnOk result (self.new ≡ (self.old.0 ++ cursor ∷ [], self.old.1 ++ quota_of mark ∷ [])) }
     {
-        self.counters.push(Counter { allowance, own: 0 })?;
+        self.counters.push(Counter { mark, own: 0 })?;
         if let Err(failed) = self.cursors.push(cursor) {
             self.counters.pop();
             return Err(AllocError::from(failed));

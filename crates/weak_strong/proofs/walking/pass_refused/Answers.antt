@@ -1,12 +1,12 @@
-use Rattle.std.proofs.Common.{◌≡◌, ◌-◌, ◌∙◌, ap, sym, subst, Option, map, arith}
+use Rattle.std.proofs.Common.{◌≡◌, ◌-◌, ◌∙◌, ap, sym, subst, Option, None, Some, map, arith}
 use Rattle.uni_base.specs.declared.entity.DocKey.{DocKey}
 use Rattle.uni_base.specs.KeySets.{united}
 use Rattle.uni_base.proofs.UnitedLemmas.{KeepsKeys_trans}
 use Rattle.weak_strong.specs.Marks.{counter_of}
 use Rattle.weak_strong.specs.Rules.{keeps_by, walkers}
-use Rattle.weak_strong.specs.Walking.{IsWalking, walk_of}
+use Rattle.weak_strong.specs.Walking.{HasSettled}
 use Rattle.weak_strong.proofs.Counting.{first_among}
-use Rattle.weak_strong.proofs.Settled.{counted_on, narrowed, owns_below, refused_on, settled_end, settled_here, walk_of-united, within_old}
+use Rattle.weak_strong.proofs.Settled.{counted_on, has_settled, owns_below, refused_on, settled_end, settled_here, within_old}
 use Rattle.weak_strong.proofs.Whole.{none_from}
 use Rattle.weak_strong.proofs.walking.pass_refused.Goals as goal
 
@@ -17,20 +17,6 @@ next-requires g c =
 
 pub is_kept-requires-clause-owns : goal.is_kept-requires-clause-owns
 is_kept-requires-clause-owns g c = owns_below c.args.counters.now c.args.kept c.next.result c.requires.owns c.next.ensures.value
-
-pub returns-then-is_kept-clause-operands : goal.returns-then-is_kept-clause-operands
-returns-then-is_kept-clause-operands g c =
-    let olds = map g.C.DocCursor.remaining c.args.candidates.now in
-    let nows = map g.C.DocCursor.remaining c.loop-key.candidates in
-    let counters = map counter_of c.args.counters.now in
-    narrowed (united nows) (walk_of c.args.rule nows counters c.args.kept) olds nows (walk_of-united c.args.rule nows counters c.args.kept) c.loop-key.invariant.operands
-
-pub returns-clause-operands : goal.returns-clause-operands
-returns-clause-operands g c =
-    let olds = map g.C.DocCursor.remaining c.args.candidates.now in
-    let nows = map g.C.DocCursor.remaining c.loop-key.candidates in
-    let counters = map counter_of c.args.counters.now in
-    narrowed (united nows) (walk_of c.args.rule nows counters c.args.kept) olds nows (walk_of-united c.args.rule nows counters c.args.kept) c.loop-key.invariant.operands
 
 pub loop-key-preserved : goal.loop-key-preserved
 loop-key-preserved g c =
@@ -47,18 +33,22 @@ loop-key-preserved g c =
       operands = KeepsKeys_trans (united nows) (united news) olds nows news (within_old c.args.rule nows news counters c.args.kept c.step.ensures.after c.step.ensures.operands) c.loop-key.invariant.operands c.step.ensures.operands;
     }
 
-pub returns-clause-walking : goal.returns-clause-walking
-returns-clause-walking g c =
-    let nows = map g.C.DocCursor.remaining c.loop-key.candidates in
+pub returns : goal.returns
+returns g c =
+    let view = g.C.DocCursor.remaining in
+    let nows = map view c.loop-key.candidates in
     let counters = map counter_of c.args.counters.now in
-    record { counted = c.loop-key.invariant.counted; settled = settled_end c.args.rule nows counters c.args.kept (sym c.peek.ensures.first ∙ none_from c.peek.result c.in_default.not-Some) }
+    has_settled c.args.rule counters c.args.kept (map view c.args.candidates.now) nows None c.loop-key.invariant.counted
+    (settled_end c.args.rule nows counters c.args.kept (sym c.peek.ensures.first ∙ none_from c.peek.result c.in_default.not-Some)) c.loop-key.invariant.walk c.loop-key.invariant.operands
 
-pub returns-then-is_kept-clause-walking : goal.returns-then-is_kept-clause-walking
-returns-then-is_kept-clause-walking g c =
-    let nows = map g.C.DocCursor.remaining c.loop-key.candidates in
+pub returns-then-is_kept : goal.returns-then-is_kept
+returns-then-is_kept g c =
+    let view = g.C.DocCursor.remaining in
+    let nows = map view c.loop-key.candidates in
     let counters = map counter_of c.args.counters.now in
     let one : c.next.result - 1 ≡ c.args.kept = omega (arith, c.next.ensures.value) in
     let first = sym c.in-Some.ensures.first in
     let keeps = ap (λ n. keeps_by c.args.rule n (walkers nows counters) c.in-Some.key) (sym one) ∙ sym (c.is_kept.ensures c.in-Some.key first) ∙ c.if-is_kept.true in
-    subst (λ (o : Option DocKey). IsWalking c.args.rule nows counters c.args.kept o) (c.in-Some.ensures.first ∙ sym c.peek-then-is_kept.ensures.first)
-    (record { counted = c.loop-key.invariant.counted; settled = settled_here c.args.rule nows counters c.args.kept c.in-Some.key first keeps })
+    subst (λ (o : Option DocKey). HasSettled c.args.rule counters c.args.kept (map view c.args.candidates.now) nows o) (c.in-Some.ensures.first ∙ sym c.peek-then-is_kept.ensures.first)
+    (has_settled c.args.rule counters c.args.kept (map view c.args.candidates.now) nows (Some c.in-Some.key) c.loop-key.invariant.counted
+    (settled_here c.args.rule nows counters c.args.kept c.in-Some.key first keeps) c.loop-key.invariant.walk c.loop-key.invariant.operands)

@@ -1,9 +1,9 @@
-use Rattle.std.proofs.Common.{◌≡◌, ◌∙◌, List, sym, subst, map}
-use Rattle.uni_base.specs.KeySets.{united, KeepsKeys}
+use Rattle.std.proofs.Common.{◌∙◌, List, sym, subst, map}
+use Rattle.uni_base.specs.KeySets.{united}
 use Rattle.std.proofs.lemmas.List.{length-map}
 use Rattle.weak_strong.specs.declared.rule.Counter.{Counter}
 use Rattle.weak_strong.specs.Marks.{counter_of}
-use Rattle.weak_strong.specs.Walking.{IsCounted, walk_of}
+use Rattle.weak_strong.specs.Walking.{HasSettled, IsCounted}
 use Rattle.weak_strong.proofs.Counting.{first_among}
 use Rattle.weak_strong.proofs.Settled.{owns_below}
 use Rattle.weak_strong.proofs.Whole.{counted_next, none_from, stepped_walk, stepped_operands, whole_end}
@@ -31,20 +31,18 @@ returns-in_default-clause-walk g c =
 
 pub returns-in-Some-clause-walk : goal.returns-in-Some-clause-walk
 returns-in-Some-clause-walk g c =
-    stepped_walk g.C.DocCursor.remaining c.args.self.now c.self.inside.rule c.self.inside.candidates (map counter_of c.self.inside.counters.items) (map counter_of c.count.new.counters.items) c.self.inside.kept c.next-kept.result
-    c.self.view_is c.self.inside.at c.self.invariant.settled c.in-Some.key c.in-Some.is c.next-kept.ensures.value c.count.ensures.walked (map g.C.DocCursor.remaining c.step.new.self)
-    (map g.C.DocCursor.remaining c.settle-self-inside.new.candidates) c.step.ensures.after c.step.ensures.operands
-    (subst (λ (cs : List Counter). walk_of c.self.inside.rule (map g.C.DocCursor.remaining c.settle-self-inside.new.candidates) (map counter_of cs) c.next-kept.result
-    ≡ walk_of c.self.inside.rule (map g.C.DocCursor.remaining c.step.new.self) (map counter_of cs) c.next-kept.result) c.as_slice.ensures.value c.settle-self-inside.ensures.walk)
-    (subst (λ (cs : List Counter). KeepsKeys (walk_of c.self.inside.rule (map g.C.DocCursor.remaining c.settle-self-inside.new.candidates) (map counter_of cs) c.next-kept.result)
-    (map g.C.DocCursor.remaining c.step.new.self) (map g.C.DocCursor.remaining c.settle-self-inside.new.candidates)) c.as_slice.ensures.value c.settle-self-inside.ensures.operands)
+    let view = g.C.DocCursor.remaining in
+    stepped_walk view c.args.self.now c.self.inside.rule c.self.inside.candidates (map counter_of c.self.inside.counters.items) (map counter_of c.count.new.counters.items) c.self.inside.kept c.next-kept.result
+    c.self.view_is c.self.inside.at c.self.invariant.settled c.in-Some.key c.in-Some.is c.next-kept.ensures.value c.count.ensures.walked (map view c.step.new.self) (map view c.settle-self-inside.new.candidates)
+    c.step.ensures.after c.step.ensures.operands c.settle-self-inside.result
+    (subst (λ (cs : List Counter). HasSettled c.self.inside.rule (map counter_of cs) c.next-kept.result (map view c.step.new.self) (map view c.settle-self-inside.new.candidates) c.settle-self-inside.result)
+    c.as_slice.ensures.value c.settle-self-inside.ensures)
 
 pub returns-in-Some-clause-operands : goal.returns-in-Some-clause-operands
 returns-in-Some-clause-operands g c =
-    stepped_operands g.C.DocCursor.remaining c.args.self.now c.self.inside.rule c.self.inside.candidates (map counter_of c.self.inside.counters.items) (map counter_of c.count.new.counters.items) c.self.inside.kept c.next-kept.result
-    c.self.view_is c.self.inside.at c.self.invariant.settled c.in-Some.key c.in-Some.is c.next-kept.ensures.value c.count.ensures.walked (map g.C.DocCursor.remaining c.step.new.self)
-    (map g.C.DocCursor.remaining c.settle-self-inside.new.candidates) c.step.ensures.after c.step.ensures.operands
-    (subst (λ (cs : List Counter). walk_of c.self.inside.rule (map g.C.DocCursor.remaining c.settle-self-inside.new.candidates) (map counter_of cs) c.next-kept.result
-    ≡ walk_of c.self.inside.rule (map g.C.DocCursor.remaining c.step.new.self) (map counter_of cs) c.next-kept.result) c.as_slice.ensures.value c.settle-self-inside.ensures.walk)
-    (subst (λ (cs : List Counter). KeepsKeys (walk_of c.self.inside.rule (map g.C.DocCursor.remaining c.settle-self-inside.new.candidates) (map counter_of cs) c.next-kept.result)
-    (map g.C.DocCursor.remaining c.step.new.self) (map g.C.DocCursor.remaining c.settle-self-inside.new.candidates)) c.as_slice.ensures.value c.settle-self-inside.ensures.operands)
+    let view = g.C.DocCursor.remaining in
+    stepped_operands view c.args.self.now c.self.inside.rule c.self.inside.candidates (map counter_of c.self.inside.counters.items) (map counter_of c.count.new.counters.items) c.self.inside.kept c.next-kept.result
+    c.self.view_is c.self.inside.at c.self.invariant.settled c.in-Some.key c.in-Some.is c.next-kept.ensures.value c.count.ensures.walked (map view c.step.new.self) (map view c.settle-self-inside.new.candidates)
+    c.step.ensures.after c.step.ensures.operands c.settle-self-inside.result
+    (subst (λ (cs : List Counter). HasSettled c.self.inside.rule (map counter_of cs) c.next-kept.result (map view c.step.new.self) (map view c.settle-self-inside.new.candidates) c.settle-self-inside.result)
+    c.as_slice.ensures.value c.settle-self-inside.ensures)
