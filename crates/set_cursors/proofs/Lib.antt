@@ -4,5 +4,6 @@ mod Differences
 mod Filtered
 mod FirstKeys
 mod Moved
+mod Reached
 pub mod Shared
 mod Weights

@@ -6,6 +6,7 @@ use Rattle.uni_base.specs.Cursors.{is_before, IsRanked, keys_from}
 use Rattle.uni_base.specs.KeySets.{has_key, united, KeepsKeys}
 use Rattle.set_cursors.specs.Filters.{common}
 use Rattle.set_cursors.specs.Firsts.{is_first}
+use Rattle.set_cursors.specs.Moves.{AreEnough, AreFew}
 
 -- it stands at the first common key, which each operand is at
 pub record StandsAt (first : Option DocKey) (lists : List (List DocKey)) : Type 0 where
@@ -47,6 +48,17 @@ pub record IsAsked (asked : DocKey) (answer : Option DocKey) (olds news : List (
   pub parts : (i : ℕ) → IsPart (slice_index_or olds i []) (slice_index_or news i [])
   pub ended : answer ≡ None → (k : DocKey) → list_all (λ keys. has_key keys k) olds ≡ false
   pub reached : (at : DocKey) → answer ≡ Some at → IsReached asked at olds news
+
+-- so many operands have leapt to the first key that all of them have, with so many moves before and after: no
+-- key is new, and they have what they had in common
+pub record HasReached (count : ℕ) (first : Option DocKey) (before after : ℕ) (olds news : List (List DocKey)) : Type 0 where
+  pub stands : StandsAt first news
+  pub ranked : (k : DocKey) → first ≡ Some k → (i : ℕ) → i < length news → IsRanked (slice_index_or news i [])
+  pub common_stays : common news ≡ common olds
+  pub operands : KeepsKeys (common news) olds news
+  pub parts : (i : ℕ) → IsPart (slice_index_or olds i []) (slice_index_or news i [])
+  pub few : AreFew before after olds news
+  pub enough : AreEnough before after count (common news)
 
 -- operands have leapt: their common keys are those that were to be left, and each keeps those that it had
 pub record HasLeapt (left : List DocKey) (olds news : List (List DocKey)) : Type 0 where

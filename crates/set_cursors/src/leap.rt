@@ -1,12 +1,9 @@
 ghost use Rattle.std.specs.Prelude.{◌≡◌, ◌+◌, ◌<◌, ◌≤◌, ℕ, [], Some, map, not, slice_get, slice_index_or, vec_len};
-ghost use Rattle.set_cursors.specs.Filters.{common};
-ghost use Rattle.set_cursors.specs.Leaps.{HasNoCommonBefore, IsAsked, IsPart, StandsAt, first_filtered};
-ghost use Rattle.set_cursors.specs.Moves.{AreEnough, AreFew};
+ghost use Rattle.set_cursors.specs.Leaps.{HasNoCommonBefore, HasReached, IsAsked, StandsAt, first_filtered};
 ghost use Rattle.uni_base.specs.Cursors.{IsRanked, is_before, keys_from};
 ghost use Rattle.uni_base.specs.declared.entity.DocKey.{DocKey as Keys};
 ghost use Rattle.uni_base.specs.RankOrder.{doc_cmp};
 ghost use Rattle.std.specs.Ordering.{is_eq};
-ghost use Rattle.uni_base.specs.KeySets.{KeepsKeys};
 
 use crate::operands::pass;
 use std::sync::ledger::Ledger;
@@ -87,16 +84,8 @@ pub(crate) fn leap<C: DocCursor, L: Ledger>(
     operands: &mut Vec<C>,
     moves: &mut Steps<L>,
 ) -> Option<DocKey>
-    ensures stands { StandsAt result (map C.remaining operands.new.items) }
-    ensures ranked { (k : Keys) → result ≡ Some k → (i : ℕ) → i < vec_len operands.new
-        → IsRanked (slice_index_or (map C.remaining operands.new.items) i []) }
-    ensures common { common (map C.remaining operands.new.items) ≡ common (map C.remaining operands.old.items) }
-    ensures operands { let olds = map C.remaining operands.old.items in let news = map C.remaining operands.new.items in
-        KeepsKeys (common news) olds news }
-    ensures parts { let olds = map C.remaining operands.old.items in let news = map C.remaining operands.new.items in
-        (i : ℕ) → IsPart (slice_index_or olds i []) (slice_index_or news i []) }
-    ensures few { AreFew moves.old moves.new (map C.remaining operands.old.items) (map C.remaining operands.new.items) }
-    ensures enough { AreEnough moves.old moves.new (vec_len operands.old) (common (map C.remaining operands.new.items)) }
+    ensures { let olds = map C.remaining operands.old.items in let news = map C.remaining operands.new.items in
+        HasReached (vec_len operands.old) result moves.old moves.new olds news }
 {
     let mut key = operands.first()?.peek()?;
     loop {

@@ -8,12 +8,12 @@ use Rattle.set_cursors.proofs.and.AndCursor.step_counted.Goals as goal
 pub returns-in-Some-clause-after : goal.returns-in-Some-clause-after
 returns-in-Some-clause-after g c =
     common-passed g.C.DocCursor.remaining c.leap-self-inside.new.operands.items c.pass_first.new.operands.items c.args.self.now c.self.inside.operands.items c.self.view_is
-    c.leap-self-inside.ensures.common c.leap-self-inside.ensures.operands c.in-Some.key (sym c.in-Some.is ∙ c.self.invariant.first_is) c.pass_first.ensures.moves
+    c.leap-self-inside.ensures.common_stays c.leap-self-inside.ensures.operands c.in-Some.key (sym c.in-Some.is ∙ c.self.invariant.first_is) c.pass_first.ensures.moves
 
 pub returns-in-Some-clause-operands : goal.returns-in-Some-clause-operands
 returns-in-Some-clause-operands g c =
     common-KeepsKeys-passed g.C.DocCursor.remaining c.leap-self-inside.new.operands.items c.pass_first.new.operands.items c.args.self.now c.self.inside.operands.items c.self.view_is
-    c.leap-self-inside.ensures.common c.leap-self-inside.ensures.operands c.in-Some.key c.pass_first.ensures.moves
+    c.leap-self-inside.ensures.common_stays c.leap-self-inside.ensures.operands c.in-Some.key c.pass_first.ensures.moves
 
 pub returns-in-Some-clause-few : goal.returns-in-Some-clause-few
 returns-in-Some-clause-few g c =
