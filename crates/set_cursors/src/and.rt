@@ -6,6 +6,7 @@ ghost use Rattle.set_cursors.specs.Moves.{AreEnough, AreFew};
 ghost use Rattle.uni_base.specs.Cursors.{IsRanked, keys_from};
 ghost use Rattle.uni_base.specs.KeySets.{has_first, KeepsKeys};
 
+use crate::OperatorCursor;
 use crate::leap::{leap, pass_first, seek_first};
 use crate::operands::is_at;
 use std::marker::{Brand, Model};
@@ -62,28 +63,6 @@ impl<C: DocCursor> AndCursor<C> {
         let mut operands = operands;
         let first = leap(&mut operands, moves);
         AndCursor { operands, first }
-    }
-
-    /// Whether an operand, counted from 0, has the current key. No operand has it at the end.
-    pub fn matches(&self, i: usize) -> bool
-        requires { i < length self.now }
-        ensures holds { let lists = map C.remaining self.now in
-            result ≡ has_first (slice_index_or lists i []) (common lists) }
-        ensures current { let lists = map C.remaining self.now in
-            OnTrue result (slice_get (slice_index_or lists i []) 0 ≡ slice_get (common lists) 0) }
-    {
-        match self.first {
-            Some(key) => is_at(&self.operands[i], key),
-            None => false,
-        }
-    }
-
-    /// An operand, counted from 0.
-    pub fn operand(&self, i: usize) -> &C
-        requires { i < length self.now }
-        ensures { slice_get self.now i ≡ Some result.now }
-    {
-        &self.operands[i]
     }
 
     /// As `step`, and counts each step and each seek of an operand as one step. There is one move, and then
@@ -160,5 +139,22 @@ impl<C: DocCursor> DocCursor for AndCursor<C> {
             KeepsKeys (common news) olds news }
     {
         self.seek_over::<Brand>(from, Blank::new(1));
+    }
+}
+
+impl<C: DocCursor> OperatorCursor for AndCursor<C> {
+    type Operand = C;
+
+    ghost operands = { λ operands. operands };
+
+    fn matches(&self, i: usize) -> bool {
+        match self.first {
+            Some(key) => is_at(&self.operands[i], key),
+            None => false,
+        }
+    }
+
+    fn operand(&self, i: usize) -> &C {
+        &self.operands[i]
     }
 }

@@ -5,6 +5,7 @@ ghost use Rattle.set_cursors.specs.Filters.{difference};
 ghost use Rattle.uni_base.specs.Cursors.{IsRanked, keys_from};
 ghost use Rattle.uni_base.specs.KeySets.{has_first, has_key, KeepsKeys};
 
+use crate::OperatorCursor;
 use crate::operands::is_at;
 use std::marker::Model;
 use uni_base::{DocCursor, DocKey};
@@ -67,26 +68,6 @@ impl<C: DocCursor> DifferenceCursor<C> {
         skip(&mut first, &mut second);
         DifferenceCursor { first, second }
     }
-
-    /// Whether an operand, counted from 0, has the current key: the first has it, the second does not.
-    pub fn matches(&self, i: usize) -> bool
-        requires { i < 2 }
-        ensures holds { let lists = C.remaining self.now.0 ∷ C.remaining self.now.1 ∷ [] in
-            result ≡ has_first (slice_index_or lists i []) (difference (C.remaining self.now.0) (C.remaining self.now.1)) }
-        ensures current { let lists = C.remaining self.now.0 ∷ C.remaining self.now.1 ∷ [] in
-            OnTrue result (slice_get (slice_index_or lists i []) 0
-            ≡ slice_get (difference (C.remaining self.now.0) (C.remaining self.now.1)) 0) }
-    {
-        i == 0 && self.first.peek().is_some()
-    }
-
-    /// An operand, counted from 0.
-    pub fn operand(&self, i: usize) -> &C
-        requires { i < 2 }
-        ensures { result.now ≡ (if i == 0 then self.now.0 else self.now.1) }
-    {
-        if i == 0 { &self.first } else { &self.second }
-    }
 }
 
 impl<C: DocCursor> DocCursor for DifferenceCursor<C> {
@@ -118,5 +99,22 @@ impl<C: DocCursor> DocCursor for DifferenceCursor<C> {
     {
         self.first.seek(from);
         skip(&mut self.first, &mut self.second);
+    }
+}
+
+impl<C: DocCursor> OperatorCursor for DifferenceCursor<C> {
+    ghost use Rattle.std.specs.Prelude.{[], ◌∷◌};
+
+    type Operand = C;
+
+    ghost operands = { λ operands. operands.0 ∷ operands.1 ∷ [] };
+
+    // the first operand has each key, and the second has none
+    fn matches(&self, i: usize) -> bool {
+        i == 0 && self.first.peek().is_some()
+    }
+
+    fn operand(&self, i: usize) -> &C {
+        if i == 0 { &self.first } else { &self.second }
     }
 }

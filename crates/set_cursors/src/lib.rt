@@ -6,8 +6,10 @@ mod and;
 mod difference;
 mod leap;
 mod operands;
+mod operator;
 mod or;
 
 pub use and::AndCursor;
 pub use difference::DifferenceCursor;
+pub use operator::OperatorCursor;
 pub use or::OrCursor;

@@ -6,6 +6,7 @@ ghost use Rattle.uni_base.specs.declared.entity.DocKey.{DocKey as Keys};
 ghost use Rattle.uni_base.specs.Cursors.{IsRanked, keys_from};
 ghost use Rattle.uni_base.specs.KeySets.{has_first, has_key, united, KeepsKeys};
 
+use crate::OperatorCursor;
 use crate::leap::leap;
 use crate::operands::{first_of, is_at, pass_all, seek_all};
 use std::marker::{Brand, Model};
@@ -39,28 +40,6 @@ impl<C: DocCursor> OrCursor<C> {
     {
         let first = first_of(operands.as_slice());
         OrCursor { operands, first }
-    }
-
-    /// Whether an operand, counted from 0, has the current key. No operand has it at the end.
-    pub fn matches(&self, i: usize) -> bool
-        requires { i < length self.now }
-        ensures holds { let lists = map C.remaining self.now in
-            result ≡ has_first (slice_index_or lists i []) (united lists) }
-        ensures current { let lists = map C.remaining self.now in
-            OnTrue result (slice_get (slice_index_or lists i []) 0 ≡ slice_get (united lists) 0) }
-    {
-        match self.first {
-            Some(key) => is_at(&self.operands[i], key),
-            None => false,
-        }
-    }
-
-    /// An operand, counted from 0.
-    pub fn operand(&self, i: usize) -> &C
-        requires { i < length self.now }
-        ensures { slice_get self.now i ≡ Some result.now }
-    {
-        &self.operands[i]
     }
 
     /// Moves on by seeks, as an `AndCursor` does, to the first key that all operands have, and gives it. Where
@@ -124,5 +103,22 @@ impl<C: DocCursor> DocCursor for OrCursor<C> {
     {
         seek_all(&mut self.operands, &from);
         self.first = first_of(self.operands.as_slice());
+    }
+}
+
+impl<C: DocCursor> OperatorCursor for OrCursor<C> {
+    type Operand = C;
+
+    ghost operands = { λ operands. operands };
+
+    fn matches(&self, i: usize) -> bool {
+        match self.first {
+            Some(key) => is_at(&self.operands[i], key),
+            None => false,
+        }
+    }
+
+    fn operand(&self, i: usize) -> &C {
+        &self.operands[i]
     }
 }

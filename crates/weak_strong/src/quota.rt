@@ -6,6 +6,7 @@ ghost use Rattle.weak_strong.specs.Walking.{walk_of};
 
 use crate::Walk;
 use crate::walking::{Parts, Walking};
+use set_cursors::OperatorCursor;
 use std::alloc::{AllocError, Global};
 use std::marker::{Model, PhantomData};
 use uni_base::{DocCursor, DocKey};
@@ -52,27 +53,6 @@ impl<W: Walk, C: DocCursor + Drop> QuotaCursor<W, C> {
     }
 }
 
-impl<W: Walk, C: DocCursor> QuotaCursor<W, C> {
-    /// Whether an operand, counted from 0, has the current key. No operand has it at the end.
-    pub fn matches(&self, i: usize) -> bool
-        requires { i < length self.now.0 }
-        ensures holds { let lists = map C.remaining self.now.0 in
-            result ≡ has_first (slice_index_or lists i []) (walk_of W.rule lists self.now.1 self.now.2) }
-        ensures current { let lists = map C.remaining self.now.0 in
-            OnTrue result (slice_get (slice_index_or lists i []) 0 ≡ slice_get (walk_of W.rule lists self.now.1 self.now.2) 0) }
-    {
-        self.walking.matches(i)
-    }
-
-    /// An operand, counted from 0.
-    pub fn operand(&self, i: usize) -> &C
-        requires { i < length self.now.0 }
-        ensures { slice_get self.now.0 i ≡ Some result.now }
-    {
-        self.walking.operand(i)
-    }
-}
-
 impl<W: Walk, C: DocCursor> DocCursor for QuotaCursor<W, C> {
     ghost use Rattle.std.specs.Prelude.{map};
     ghost use Rattle.weak_strong.specs.Walking.{walk_of};
@@ -99,5 +79,19 @@ impl<W: Walk, C: DocCursor> DocCursor for QuotaCursor<W, C> {
             (map C.remaining self.old.0) (map C.remaining self.new.0) }
     {
         self.walking.seek(from);
+    }
+}
+
+impl<W: Walk, C: DocCursor> OperatorCursor for QuotaCursor<W, C> {
+    type Operand = C;
+
+    ghost operands = { λ c. c.0 };
+
+    fn matches(&self, i: usize) -> bool {
+        self.walking.matches(i)
+    }
+
+    fn operand(&self, i: usize) -> &C {
+        self.walking.operand(i)
     }
 }

@@ -1,7 +1,7 @@
-ghost use Rattle.std.specs.Prelude.{◌≤◌, option_to_list};
+ghost use Rattle.std.specs.Prelude.{◌≡◌, ◌≤◌, IfOk, option_to_list, vec_len};
 
 use crate::{Fraction, StrongOrCursor, WeakAndCursor, WeakMark};
-use set_cursors::{AndCursor, DifferenceCursor, OrCursor};
+use set_cursors::{AndCursor, DifferenceCursor, OperatorCursor, OrCursor};
 use std::alloc::Global;
 use std::test::Fail;
 use uni_base::{DocCursor, DocKey, EntityId, Rank};
@@ -227,7 +227,9 @@ fn questions_have_these_keys_from_each_key_on(rt: HostRuntime) -> Result<(), Fai
 }
 
 // What all friends but one and all Romans are, and who lives in Oslo.
-fn nested(alloc: Global) -> Result<Vec<WeakAndCursor<OrCursor<OneKey>>>, Fail> {
+fn nested(alloc: Global) -> Result<Vec<WeakAndCursor<OrCursor<OneKey>>>, Fail>
+    ensures { IfOk result (λ operands. vec_len operands ≡ 2) }
+{
     let mut operands = Vec::new(alloc);
     operands.push(weak(
         alloc,
@@ -244,6 +246,9 @@ fn nested(alloc: Global) -> Result<Vec<WeakAndCursor<OrCursor<OneKey>>>, Fail> {
 #[test]
 fn cursors_of_one_type_nest(rt: HostRuntime) -> Result<(), Fail> {
     let alloc = rt.alloc();
+    let cursor = OrCursor::new(nested(alloc)?);
+    assert!(rt; cursor.matches(0) && !cursor.matches(1));
+    assert_eq!(rt; cursor.operand(0).peek(), key(2));
     let either: &[u64] = &[2, 5, 6, 4];
     let both: &[u64] = &[];
     for (id, _) in RANKED {

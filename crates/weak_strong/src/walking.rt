@@ -11,7 +11,7 @@ ghost use Rattle.uni_base.specs.declared.entity.DocKey.{DocKey as Keys};
 
 use crate::WeakMark;
 use crate::rule::{Counter, Rule};
-use set_cursors::OrCursor;
+use set_cursors::{OperatorCursor, OrCursor};
 use std::alloc::{AllocError, Global};
 use std::marker::Model;
 use uni_base::{DocCursor, DocKey};

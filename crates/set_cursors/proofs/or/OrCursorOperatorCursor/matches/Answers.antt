@@ -4,7 +4,7 @@ use Rattle.std.proofs.lemmas.List.{get_or-map}
 use Rattle.uni_base.specs.Cursors.{IsRanked}
 use Rattle.set_cursors.specs.Firsts.{is_first}
 use Rattle.set_cursors.proofs.FirstKeys.{first_in}
-use Rattle.set_cursors.proofs.or.OrCursor.matches.Goals as goal
+use Rattle.set_cursors.proofs.or.OrCursorOperatorCursor.matches.Goals as goal
 
 pub returns-in-Some-clause-holds : goal.returns-in-Some-clause-holds
 returns-in-Some-clause-holds g c =

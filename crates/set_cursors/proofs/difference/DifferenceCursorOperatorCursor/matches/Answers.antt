@@ -1,7 +1,7 @@
 use Rattle.std.proofs.Common.{◌≡◌, false, nat_eq, ◌∙◌, arith}
 use Rattle.std.proofs.lemmas.Bool.Decides.{nat_tests}
 use Rattle.set_cursors.proofs.Differences.{matches_holds, matches_current, matches_not}
-use Rattle.set_cursors.proofs.difference.DifferenceCursor.matches.Goals as goal
+use Rattle.set_cursors.proofs.difference.DifferenceCursorOperatorCursor.matches.Goals as goal
 
 pub returns-then-i-eq0-clause-holds : goal.returns-then-i-eq0-clause-holds
 returns-then-i-eq0-clause-holds g c =
