@@ -217,3 +217,10 @@ module _ {D : Type 0} (view : D → List DocKey) (operands : D × D) (first seco
   sought_keys from moves =
       keys ∙ ap (λ (ks : List DocKey). difference ks (view second)) moves ∙ seek_keys from (view first) (view second)
       ∙ ap (λ (p : D × D). keys_from from (difference (view p.0) (view p.1))) is
+
+-- the keys that are left after a step
+pub stepped_keys : {D : Type 0} (view : D → List DocKey) (operands : D × D) (first second : D) → (first, second) ≡ operands → IsClear (view first) (view second) → (mid : D) (gs ts : List DocKey)
+    → difference gs ts ≡ difference (view mid) (view second) → view mid ≡ drop 1 (view first) → difference gs ts ≡ drop 1 (difference (view operands.0) (view operands.1))
+stepped_keys {D} view operands first second is clear mid gs ts keys moves =
+    keys ∙ ap (λ (ks : List DocKey). difference ks (view second)) moves ∙ step_clear (view first) (view second) clear
+    ∙ ap (λ (p : D × D). drop 1 (difference (view p.0) (view p.1))) is

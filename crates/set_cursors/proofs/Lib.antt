@@ -4,6 +4,9 @@ mod Differences
 mod Filtered
 mod FirstKeys
 mod Moved
+mod Passed
+mod PassedFirst
+mod PassedPair
 mod Reached
 pub mod Shared
 mod Weights

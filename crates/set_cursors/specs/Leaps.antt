@@ -7,6 +7,7 @@ use Rattle.uni_base.specs.KeySets.{has_key, united, KeepsKeys}
 use Rattle.set_cursors.specs.Filters.{common}
 use Rattle.set_cursors.specs.Firsts.{is_first}
 use Rattle.set_cursors.specs.Moves.{AreEnough, AreFew}
+use Rattle.set_cursors.specs.Passed.{HavePassed}
 
 -- it stands at the first common key, which each operand is at
 pub record StandsAt (first : Option DocKey) (lists : List (List DocKey)) : Type 0 where
@@ -57,13 +58,16 @@ pub record HasReached (count : ℕ) (first : Option DocKey) (before after : ℕ)
   pub common_stays : common news ≡ common olds
   pub operands : KeepsKeys (common news) olds news
   pub parts : (i : ℕ) → IsPart (slice_index_or olds i []) (slice_index_or news i [])
+  pub passed : HavePassed (common news) olds news
   pub few : AreFew before after olds news
   pub enough : AreEnough before after count (common news)
 
--- operands have leapt: their common keys are those that were to be left, and each keeps those that it had
+-- operands have leapt: their common keys are those that were to be left; each keeps those that it had, and
+-- has passed what comes before the first
 pub record HasLeapt (left : List DocKey) (olds news : List (List DocKey)) : Type 0 where
   pub keys : common news ≡ left
   pub operands : KeepsKeys left olds news
+  pub passed : HavePassed left olds news
 
 -- the first list has those of its keys left that pass a test, and the others have all of theirs
 abbrev pub first_filtered : (DocKey → Bool) → List (List DocKey) → List (List DocKey)

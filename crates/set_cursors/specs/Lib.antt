@@ -3,3 +3,4 @@ pub mod Filters
 pub mod Firsts
 pub mod Leaps
 pub mod Moves
+pub mod Passed

@@ -3,6 +3,7 @@ ghost use Rattle.std.specs.Bool.{OnTrue};
 ghost use Rattle.set_cursors.specs.Filters.{common};
 ghost use Rattle.set_cursors.specs.Leaps.{HasLeapt};
 ghost use Rattle.set_cursors.specs.Moves.{AreEnough, AreFew};
+ghost use Rattle.set_cursors.specs.Passed.{HavePassed};
 ghost use Rattle.uni_base.specs.Cursors.{IsRanked, keys_from};
 ghost use Rattle.uni_base.specs.KeySets.{has_first, KeepsKeys};
 
@@ -40,6 +41,8 @@ impl<C: DocCursor> AndCursor<C> {
         ensures keys { common (map C.remaining result) ≡ common (map C.remaining operands.items) }
         ensures operands { let olds = map C.remaining operands.items in let news = map C.remaining result in
             KeepsKeys (common news) olds news }
+        ensures passed { let olds = map C.remaining operands.items in let news = map C.remaining result in
+            HavePassed (common news) olds news }
     {
         AndCursor::new_over::<Brand>(operands, Blank::new(1))
     }
@@ -57,6 +60,8 @@ impl<C: DocCursor> AndCursor<C> {
         ensures keys { common (map C.remaining result) ≡ common (map C.remaining operands.items) }
         ensures operands { let olds = map C.remaining operands.items in let news = map C.remaining result in
             KeepsKeys (common news) olds news }
+        ensures passed { let olds = map C.remaining operands.items in let news = map C.remaining result in
+            HavePassed (common news) olds news }
         ensures few { AreFew moves.old moves.new (map C.remaining operands.items) (map C.remaining result) }
         ensures enough { AreEnough moves.old moves.new (length operands.items) (common (map C.remaining result)) }
     {
@@ -72,6 +77,8 @@ impl<C: DocCursor> AndCursor<C> {
             common news ≡ drop 1 (common olds) }
         ensures operands { let olds = map C.remaining self.old in let news = map C.remaining self.new in
             KeepsKeys (common news) olds news }
+        ensures passed { let olds = map C.remaining self.old in let news = map C.remaining self.new in
+            HavePassed (common news) olds news }
         ensures few { AreFew (moves.old + 1) moves.new (map C.remaining self.old) (map C.remaining self.new) }
         ensures enough { AreEnough (moves.old + 1) moves.new (length self.old) (common (map C.remaining self.new)) }
     {
@@ -96,6 +103,8 @@ impl<C: DocCursor> AndCursor<C> {
             common news ≡ keys_from from (common olds) }
         ensures operands { let olds = map C.remaining self.old in let news = map C.remaining self.new in
             KeepsKeys (common news) olds news }
+        ensures passed { let olds = map C.remaining self.old in let news = map C.remaining self.new in
+            HavePassed (common news) olds news }
         ensures few { AreFew (moves.old + 1) moves.new (map C.remaining self.old) (map C.remaining self.new) }
         ensures enough { AreEnough (moves.old + 1) moves.new (length self.old) (common (map C.remaining self.new)) }
     {
@@ -128,6 +137,8 @@ impl<C: DocCursor> DocCursor for AndCursor<C> {
             common news ≡ drop 1 (common olds) }
         ensures operands { let olds = map C.remaining self.old in let news = map C.remaining self.new in
             KeepsKeys (common news) olds news }
+        ensures passed { let olds = map C.remaining self.old in let news = map C.remaining self.new in
+            HavePassed (common news) olds news }
     {
         self.step_over::<Brand>(Blank::new(1));
     }
@@ -137,6 +148,8 @@ impl<C: DocCursor> DocCursor for AndCursor<C> {
             common news ≡ keys_from from (common olds) }
         ensures operands { let olds = map C.remaining self.old in let news = map C.remaining self.new in
             KeepsKeys (common news) olds news }
+        ensures passed { let olds = map C.remaining self.old in let news = map C.remaining self.new in
+            HavePassed (common news) olds news }
     {
         self.seek_over::<Brand>(from, Blank::new(1));
     }

@@ -2,6 +2,7 @@ ghost use Rattle.std.specs.Prelude.{◌≡◌, ◌<◌, ◌==◌, [], ◌∷◌,
 ghost use Rattle.std.specs.Bool.{OnTrue};
 ghost use Rattle.set_cursors.specs.Differences.{IsClear};
 ghost use Rattle.set_cursors.specs.Filters.{difference};
+ghost use Rattle.set_cursors.specs.Passed.{HavePassed};
 ghost use Rattle.uni_base.specs.Cursors.{IsRanked, keys_from};
 ghost use Rattle.uni_base.specs.KeySets.{has_first, has_key, KeepsKeys};
 
@@ -45,6 +46,9 @@ fn skip<C: DocCursor>(first: &mut C, second: &mut C)
     ensures operands { let olds = C.remaining first.old ∷ C.remaining second.old ∷ [] in
         let news = C.remaining first.new ∷ C.remaining second.new ∷ [] in
         KeepsKeys (difference (C.remaining first.new) (C.remaining second.new)) olds news }
+    ensures passed { let olds = C.remaining first.old ∷ C.remaining second.old ∷ [] in
+        let news = C.remaining first.new ∷ C.remaining second.new ∷ [] in
+        HavePassed (difference (C.remaining first.new) (C.remaining second.new)) olds news }
 {
     while let Some(key) = first.peek() {
         if !seek_has(second, &key) {
@@ -62,6 +66,9 @@ impl<C: DocCursor> DifferenceCursor<C> {
         ensures operands { let olds = C.remaining first ∷ C.remaining second ∷ [] in
             let news = C.remaining result.0 ∷ C.remaining result.1 ∷ [] in
             KeepsKeys (difference (C.remaining result.0) (C.remaining result.1)) olds news }
+        ensures passed { let olds = C.remaining first ∷ C.remaining second ∷ [] in
+            let news = C.remaining result.0 ∷ C.remaining result.1 ∷ [] in
+            HavePassed (difference (C.remaining result.0) (C.remaining result.1)) olds news }
     {
         let mut first = first;
         let mut second = second;
@@ -85,9 +92,14 @@ impl<C: DocCursor> DocCursor for DifferenceCursor<C> {
         ensures operands { let olds = C.remaining self.old.0 ∷ C.remaining self.old.1 ∷ [] in
             let news = C.remaining self.new.0 ∷ C.remaining self.new.1 ∷ [] in
             KeepsKeys (difference (C.remaining self.new.0) (C.remaining self.new.1)) olds news }
+        ensures passed { let olds = C.remaining self.old.0 ∷ C.remaining self.old.1 ∷ [] in
+            let news = C.remaining self.new.0 ∷ C.remaining self.new.1 ∷ [] in
+            HavePassed (difference (C.remaining self.new.0) (C.remaining self.new.1)) olds news }
     {
-        self.first.step();
-        skip(&mut self.first, &mut self.second);
+        if self.first.peek().is_some() {
+            self.first.step();
+            skip(&mut self.first, &mut self.second);
+        }
     }
 
     fn seek(&mut self, from: DocKey)
@@ -96,6 +108,9 @@ impl<C: DocCursor> DocCursor for DifferenceCursor<C> {
         ensures operands { let olds = C.remaining self.old.0 ∷ C.remaining self.old.1 ∷ [] in
             let news = C.remaining self.new.0 ∷ C.remaining self.new.1 ∷ [] in
             KeepsKeys (difference (C.remaining self.new.0) (C.remaining self.new.1)) olds news }
+        ensures passed { let olds = C.remaining self.old.0 ∷ C.remaining self.old.1 ∷ [] in
+            let news = C.remaining self.new.0 ∷ C.remaining self.new.1 ∷ [] in
+            HavePassed (difference (C.remaining self.new.0) (C.remaining self.new.1)) olds news }
     {
         self.first.seek(from);
         skip(&mut self.first, &mut self.second);

@@ -2,6 +2,7 @@ ghost use Rattle.std.specs.Prelude.{◌≡◌, ◌<◌, ℕ, List, [], drop, fal
 ghost use Rattle.std.specs.Bool.{OnTrue};
 ghost use Rattle.set_cursors.specs.Filters.{common};
 ghost use Rattle.set_cursors.specs.Leaps.{HasLeapt};
+ghost use Rattle.set_cursors.specs.Passed.{HavePassed};
 ghost use Rattle.uni_base.specs.declared.entity.DocKey.{DocKey as Keys};
 ghost use Rattle.uni_base.specs.Cursors.{IsRanked, keys_from};
 ghost use Rattle.uni_base.specs.KeySets.{has_first, has_key, united, KeepsKeys};
@@ -50,6 +51,8 @@ impl<C: DocCursor> OrCursor<C> {
         ensures keys { common (map C.remaining self.new) ≡ common (map C.remaining self.old) }
         ensures operands { let olds = map C.remaining self.old in let news = map C.remaining self.new in
             KeepsKeys (common news) olds news }
+        ensures passed { let olds = map C.remaining self.old in let news = map C.remaining self.new in
+            HavePassed (common news) olds news }
         ensures within { (k : Keys) → has_key (united (map C.remaining self.new)) k ≡ true
             → has_key (united (map C.remaining self.old)) k ≡ true }
     {
@@ -86,6 +89,8 @@ impl<C: DocCursor> DocCursor for OrCursor<C> {
             united news ≡ drop 1 (united olds) }
         ensures operands { let olds = map C.remaining self.old in let news = map C.remaining self.new in
             KeepsKeys (united news) olds news }
+        ensures passed { let olds = map C.remaining self.old in let news = map C.remaining self.new in
+            HavePassed (united news) olds news }
         ensures others { let lists = map C.remaining self.old in (i : ℕ) → has_first (slice_index_or lists i []) (united lists) ≡ false
             → slice_get self.new i ≡ slice_get self.old i }
     {
@@ -100,6 +105,8 @@ impl<C: DocCursor> DocCursor for OrCursor<C> {
             united news ≡ keys_from from (united olds) }
         ensures operands { let olds = map C.remaining self.old in let news = map C.remaining self.new in
             KeepsKeys (united news) olds news }
+        ensures passed { let olds = map C.remaining self.old in let news = map C.remaining self.new in
+            HavePassed (united news) olds news }
     {
         seek_all(&mut self.operands, &from);
         self.first = first_of(self.operands.as_slice());

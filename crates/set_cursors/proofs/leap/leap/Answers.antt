@@ -1,11 +1,11 @@
-use Rattle.std.proofs.Common.{List, [], Option, ◌∙◌, ap, sym, subst, slice_get, get_or, map, arith, vec_len}
+use Rattle.std.proofs.Common.{List, [], Option, ◌∙◌, ap, sym, subst, refl, slice_get, get_or, map, arith, vec_len}
 use Rattle.std.proofs.lemmas.List.{length-map}
 use Rattle.std.specs.Ordering.{is_eq}
 use Rattle.uni_base.specs.declared.entity.DocKey.{DocKey}
 use Rattle.set_cursors.specs.Leaps.{HasReached}
 use Rattle.set_cursors.proofs.Shared.{IsPart_refl, IsPart_trans, KeepsShared_refl, KeepsShared_trans, asked_bounds, asked_ended, asked_keeps, asked_nearer, later_from, start_some, start_none, start_bounds, start_among}
 use Rattle.set_cursors.proofs.Weights.{last_paid, round_paid, start_paid}
-use Rattle.set_cursors.proofs.Reached.{reached_nowhere, reached_there}
+use Rattle.set_cursors.proofs.Reached.{reached_nowhere, reached_there, same_on}
 use Rattle.set_cursors.proofs.leap.leap.Goals as goal
 
 pub loop-at-init : goal.loop-at-init
@@ -18,6 +18,7 @@ loop-at-init g c =
       bounds = start_bounds view c.args.operands.now.items c.in_ok-first.field-0.now first c.in_ok-key.key c.in_ok-key.ensures.first c.peek.ensures.ranked;
       is_among = start_among view c.args.operands.now.items c.in_ok-first.field-0.now first c.in_ok-key.key c.in_ok-key.ensures.first;
       parts = IsPart_refl (map view c.args.operands.now.items);
+      same = λ i within b late. refl;
       counted = omega arith;
       paid = start_paid c.args.moves.now c.in_ok-key.key (map view c.args.operands.now.items);
     }
@@ -43,6 +44,7 @@ loop-at-preserved g c =
       bounds = asked_bounds c.loop-at.key c.ask_all.result mids news c.ask_all.ensures.asked c.in_ok-at.at c.in_ok-at.was;
       is_among = reached.is_among;
       parts = λ i. IsPart_trans (get_or inits i []) (get_or mids i []) (get_or news i []) (c.loop-at.invariant.parts i) (c.ask_all.ensures.asked.parts i);
+      same = same_on c.loop-at.key c.in_ok-at.at inits mids news c.loop-at.invariant.keeps.count reached c.loop-at.invariant.same;
       counted = omega (arith, c.loop-at.invariant.counted, c.ask_all.ensures.counted);
       paid = round_paid c.args.moves.now c.loop-at.moves c.ask_all.new.moves c.loop-at.key c.ask_all.result inits mids news c.loop-at.invariant.paid c.loop-at.invariant.keeps.count
           (omega (arith, c.ask_all.ensures.few, c.loop-at.operands.ok.0, c.loop-at.invariant.keeps.count, length-map c.loop-at.operands.items view)) c.ask_all.ensures.asked c.in_ok-at.at c.in_ok-at.was
@@ -80,7 +82,7 @@ returns-then-is_eq g c =
     let mids = map view ops.items in
     let asked = c.in_ok-at.ensures.asked in
     reached_there (vec_len c.args.operands.now) c.args.moves.now c.loop-at.moves c.ask_all.new.moves c.loop-at.key c.in_ok-at.at inits mids (map view c.ask_all.new.operands.items) asked
-    (ap is_eq (sym c.cmp.ensures) ∙ sym c.is_eq.ensures ∙ c.if-is_eq.true) c.loop-at.invariant.keeps c.loop-at.invariant.parts c.loop-at.invariant.paid
+    (ap is_eq (sym c.cmp.ensures) ∙ sym c.is_eq.ensures ∙ c.if-is_eq.true) c.loop-at.invariant.keeps c.loop-at.invariant.parts c.loop-at.invariant.same c.loop-at.invariant.paid
     (omega (arith, c.loop-at.invariant.some, ops.ok.0, length-map ops.items view))
     (omega (arith, c.ask_all.ensures.few, ops.ok.0, c.loop-at.invariant.keeps.count, length-map ops.items view))
     (let each = c.ask_all.ensures.enough c.in_ok-at.at c.in_ok-at.was in

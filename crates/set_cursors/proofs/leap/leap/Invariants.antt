@@ -4,6 +4,7 @@ use Rattle.uni_base.specs.KeySets.{has_key, united}
 use Rattle.set_cursors.specs.Leaps.{HasNoCommonBefore, IsPart}
 use Rattle.set_cursors.proofs.Shared.{KeepsShared}
 use Rattle.set_cursors.proofs.Weights.{HasPaid}
+use Rattle.set_cursors.proofs.Reached.{SameOn}
 use Rattle.set_cursors.proofs.leap.leap.Given as goal
 
 abbrev pub invariant-loop-at : goal.invariant-loop-at
@@ -16,6 +17,7 @@ invariant-loop-at g l =
       bounds : HasNoCommonBefore l.key nows;
       is_among : has_key (united nows) l.key ≡ true;
       parts : (i : ℕ) → IsPart (get_or olds i []) (get_or nows i []);
+      same : SameOn l.key olds nows;
       counted : l.initial.moves ≤ l.moves;
       paid : HasPaid l.initial.moves l.moves l.key olds nows;
     }
