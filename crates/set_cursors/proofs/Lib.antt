@@ -1,10 +1,10 @@
-mod Asked
+pub mod Asked
 mod Commons
 mod Differences
 mod Filtered
 mod FirstKeys
 mod Moved
-mod Passed
+pub mod Passed
 mod PassedFirst
 mod PassedPair
 mod Reached

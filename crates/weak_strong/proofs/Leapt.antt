@@ -12,7 +12,7 @@ use Rattle.uni_base.specs.KeySets.{has_key, united, KeepsKeys}
 use Rattle.uni_base.specs.Walks.{Quota, Walker, lets_pass}
 use Rattle.uni_base.specs.WalkLaws.{all_have as walkers_have, is_bare}
 use Rattle.uni_base.proofs.RankedLemmas.{and_false, has_key-keys_from, IsRanked-keys_from, same_from_keys}
-use Rattle.uni_base.proofs.UnitedLemmas.{KeepsKeys_trans}
+use Rattle.uni_base.proofs.UnitedLemmas.{IsRanked-united, KeepsKeys_trans}
 use Rattle.uni_base.proofs.WalkLaws.{weak_is_and}
 use Rattle.set_cursors.specs.Filters.{common}
 use Rattle.set_cursors.proofs.Shared.{all_have, all_have_same, common_all, has_key-common, IsRanked-common}
@@ -21,6 +21,8 @@ use Rattle.weak_strong.specs.declared.rule.Rule.TheVariants.{Weak, Strong}
 use Rattle.weak_strong.specs.Rules.{needs_all, walkers}
 use Rattle.weak_strong.specs.Walking.{HasSettled, IsCounted, IsWalking, walk_of}
 use Rattle.weak_strong.proofs.Settled.{walk_of-united}
+use Rattle.set_cursors.specs.Passed.{HavePassed}
+use Rattle.weak_strong.proofs.Passing.{passed_trans}
 use Rattle.weak_strong.proofs.Whole.{Whole, keys_of, whole_keys}
 use Rattle.weak_strong.proofs.Counting.{all_allow, first_among, keeps_is}
 
@@ -66,7 +68,7 @@ all_kept Weak kept k lists counters needs all = by lists counters all
 
 module _ (rule : Rule) (olds news : List (List DocKey)) (counters : List (Quota × ℕ)) (kept : ℕ) (at : Option DocKey) (needs : needs_all rule counters ≡ true) (counted : IsCounted olds counters kept)
     (first : at ≡ slice_get (common olds) 0) (stands : (k : DocKey) → at ≡ Some k → slice_get (united news) 0 ≡ Some k) (keys : common news ≡ common olds)
-    (operands : KeepsKeys (common news) olds news) (within : (k : DocKey) → has_key (united news) k ≡ true → has_key (united olds) k ≡ true) where
+    (operands : KeepsKeys (common news) olds news) (passed : HavePassed (common news) olds news) (within : (k : DocKey) → has_key (united news) k ≡ true → has_key (united olds) k ≡ true) where
   count : length counters ≡ length news
   count = counted.count ∙ sym operands.count
 
@@ -84,6 +86,7 @@ module _ (rule : Rule) (olds news : List (List DocKey)) (counters : List (Quota 
     };
     walk = walk_of-common rule news counters kept needs count ∙ keys ∙ sym (walk_of-common rule olds counters kept needs counted.count);
     operands = subst (λ (ks : List DocKey). KeepsKeys ks olds news) (sym (walk_of-common rule news counters kept needs count)) operands;
+    passed = subst (λ (ks : List DocKey). HavePassed ks olds news) (sym (walk_of-common rule news counters kept needs count)) passed;
   }
     where
       empty : (ks : List DocKey) → slice_get ks 0 ≡ None → ks ≡ []
@@ -158,16 +161,20 @@ pub record HasLeaptTo {C : Type 0} (view : C → List DocKey) (v : Whole C) (rul
   pub walking : IsWalking rule news counters kept at
   pub walk : walk_of v.0 news counters kept ≡ keys_from from (keys_of view v)
   pub operands : KeepsKeys (walk_of v.0 news counters kept) (map view v.1) news
+  pub passed : HavePassed (walk_of v.0 news counters kept) (map view v.1) news
 
 module _ {C : Type 0} (view : C → List DocKey) (v : Whole C) (rule : Rule) (cands : List C) (counters : List (Quota × ℕ)) (kept : ℕ) (is : (rule, cands, counters, kept) ≡ v) (needs : needs_all v.0 v.2 ≡ true)
     (counted : IsCounted (map view cands) counters kept) (from : DocKey) (mids news : List (List DocKey)) (sought : united mids ≡ keys_from from (united (map view cands))) (keeps : KeepsKeys (united mids) (map view cands) mids)
-    (at : Option DocKey) (first : at ≡ slice_get (common mids) 0) (stands : (k : DocKey) → at ≡ Some k → slice_get (united news) 0 ≡ Some k) (keys : common news ≡ common mids)
-    (operands : KeepsKeys (common news) mids news) (within : (k : DocKey) → has_key (united news) k ≡ true → has_key (united mids) k ≡ true) where
+    (before : HavePassed (united mids) (map view cands) mids) (at : Option DocKey) (first : at ≡ slice_get (common mids) 0) (stands : (k : DocKey) → at ≡ Some k → slice_get (united news) 0 ≡ Some k) (keys : common news ≡ common mids)
+    (operands : KeepsKeys (common news) mids news) (passed : HavePassed (common news) mids news) (within : (k : DocKey) → has_key (united news) k ≡ true → has_key (united mids) k ≡ true) where
   needs_here : needs_all rule counters ≡ true
   needs_here = ap (λ (w : Whole C). needs_all w.0 w.2) is ∙ needs
 
   settled : HasSettled rule counters kept mids news at
-  settled = leapt rule mids news counters kept at needs_here (sought_counted from (map view cands) mids sought keeps rule counters kept needs_here counted) first stands keys operands within
+  settled = leapt rule mids news counters kept at needs_here (sought_counted from (map view cands) mids sought keeps rule counters kept needs_here counted) first stands keys operands passed within
+
+  within_mids : (k : DocKey) → has_key (walk_of rule news counters kept) k ≡ true → has_key (united mids) k ≡ true
+  within_mids k has = walk_of-united rule mids counters kept k (ap (λ (ks : List DocKey). has_key ks k) (sym settled.walk) ∙ has)
 
   pub leapt_to : HasLeaptTo view v rule counters kept from news at
   leapt_to = record {
@@ -177,8 +184,10 @@ module _ {C : Type 0} (view : C → List DocKey) (v : Whole C) (rule : Rule) (ca
         ∙ ap (keys_from from) (whole_keys view v rule cands counters kept is);
     operands =
         subst (λ (w : Whole C). KeepsKeys (walk_of w.0 news counters kept) (map view w.1) news) is
-        (KeepsKeys_trans (united mids) (walk_of rule news counters kept) (map view cands) mids news
-        (λ k has. walk_of-united rule mids counters kept k (ap (λ (ks : List DocKey). has_key ks k) (sym settled.walk) ∙ has)) keeps settled.operands);
+        (KeepsKeys_trans (united mids) (walk_of rule news counters kept) (map view cands) mids news within_mids keeps settled.operands);
+    passed =
+        subst (λ (w : Whole C). HavePassed (walk_of w.0 news counters kept) (map view w.1) news) is
+        (passed_trans (united mids) (walk_of rule news counters kept) (map view cands) mids news (IsRanked-united mids) within_mids before settled.passed);
   }
 
 -- a seek after others

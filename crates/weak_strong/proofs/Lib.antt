@@ -1,7 +1,9 @@
 mod Counting
 mod Leapt
+mod Passing
 mod Placed
 mod Settled
+mod Sought
 mod Started
 mod Walked
 mod Whole

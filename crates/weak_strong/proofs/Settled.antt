@@ -15,7 +15,7 @@ use Rattle.weak_strong.specs.declared.rule.Rule.{Rule}
 use Rattle.weak_strong.specs.declared.rule.Rule.TheVariants.{Weak, Strong}
 use Rattle.weak_strong.specs.Marks.{counter_of}
 use Rattle.weak_strong.specs.Rules.{keeps_by, walkers}
-use Rattle.weak_strong.specs.Walking.{HasSettled, IsCounted, IsSettled, walk_of}
+use Rattle.weak_strong.specs.Walking.{IsCounted, IsSettled, walk_of}
 use Rattle.weak_strong.proofs.Walked.{walk_kept, IsRanked-walk, has_key-walk, walk_keeps, walk_refuses}
 
 pub walk_of-is : (rule : Rule) (lists : List (List DocKey)) (counters : List (Quota × ℕ)) (kept : ℕ) → walk_of rule lists counters kept ≡ walk (keeps_by rule) kept (walkers lists counters) (united lists)
@@ -106,13 +106,4 @@ settled_here rule lists counters kept k first keeps = record {
   stands = λ x e. first ∙ e;
   keeps = λ x e. let s : k ≡ x = cc in ap (keeps_by rule kept (walkers lists counters)) (sym s) ∙ keeps;
   over = λ e. absurd cc;
-}
-
--- candidates were passed, none of which is kept
-pub has_settled : (rule : Rule) (counters : List (Quota × ℕ)) (kept : ℕ) (olds news : List (List DocKey)) (at : Option DocKey) → IsCounted news counters kept → IsSettled rule news counters kept at
-    → walk_of rule news counters kept ≡ walk_of rule olds counters kept → KeepsKeys (united news) olds news → HasSettled rule counters kept olds news at
-has_settled rule counters kept olds news at counted settled walk operands = record {
-  walking = record { counted = counted; settled = settled };
-  walk = walk;
-  operands = narrowed (united news) (walk_of rule news counters kept) olds news (walk_of-united rule news counters kept) operands;
 }

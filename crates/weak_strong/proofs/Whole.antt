@@ -17,6 +17,8 @@ use Rattle.weak_strong.specs.Marks.{counter_of}
 use Rattle.weak_strong.specs.Rules.{walkers}
 use Rattle.weak_strong.specs.Walking.{HasSettled, IsCounted, IsSettled, walk_of}
 use Rattle.weak_strong.proofs.Counting.{first_among}
+use Rattle.set_cursors.specs.Passed.{HavePassed}
+use Rattle.weak_strong.proofs.Passing.{passed_settled, passed_trans, passed_united}
 use Rattle.weak_strong.proofs.Placed.{place_later, rest_later}
 use Rattle.weak_strong.proofs.Settled.{IsRanked-walk_of, kept_on, owns_up, settled_first, walk_of-united}
 
@@ -84,6 +86,12 @@ module _ {C : Type 0} (view : C → List DocKey) (v : Whole C) (rule : Rule) (ca
         by [] e = refl
         by (x ∷ xs) e = absurd cc
 
+    -- it has nothing before its key
+    pub whole_passed : HavePassed (keys_of view v) (map view v.1) (map view v.1)
+    whole_passed =
+        subst (λ (w : Whole C). HavePassed (keys_of view w) (map view w.1) (map view w.1)) is
+        (passed_settled rule (map view cands) counters kept at (map view cands) settled (passed_united (map view cands)))
+
     -- and it stays
     pub whole_end : at ≡ None → keys_of view v ≡ drop 1 (keys_of view v)
     whole_end none = by (keys_of view v) (sym whole_first ∙ none)
@@ -114,7 +122,7 @@ module _ (olds news : List (List DocKey)) (before : List (Quota × ℕ)) (counte
 module _ {C : Type 0} (view : C → List DocKey) (v : Whole C) (rule : Rule) (cands : List C) (before after : List (Quota × ℕ)) (kept next : ℕ) (is : (rule, cands, before, kept) ≡ v)
     (at : Option DocKey) (settled : IsSettled rule (map view cands) before kept at) (key : DocKey) (here : at ≡ Some key) (one : next ≡ kept + 1)
     (counts : (k : DocKey) → slice_get (united (map view cands)) 0 ≡ Some k → walkers (map view cands) after ≡ map (walked k) (walkers (map view cands) before))
-    (mids news : List (List DocKey)) (passed : united mids ≡ drop 1 (united (map view cands))) (keeps : KeepsKeys (united mids) (map view cands) mids)
+    (mids news : List (List DocKey)) (passed : united mids ≡ drop 1 (united (map view cands))) (keeps : KeepsKeys (united mids) (map view cands) mids) (passes : HavePassed (united mids) (map view cands) mids)
     (now : Option DocKey) (settles : HasSettled rule after next mids news now) where
   same_rule : rule ≡ v.0
   same_rule = ap (λ (w : Whole C). w.0) is
@@ -125,11 +133,18 @@ module _ {C : Type 0} (view : C → List DocKey) (v : Whole C) (rule : Rule) (ca
       ∙ kept_on rule (map view cands) mids before after kept key (settled.stands key here) (settled.keeps key here) (counts key (settled.stands key here)) passed keeps
       ∙ ap (drop 1) (whole_keys view v rule cands before kept is)
 
+  within_mids : (k : DocKey) → has_key (walk_of rule news after next) k ≡ true → has_key (united mids) k ≡ true
+  within_mids k has = walk_of-united rule mids after next k (ap (λ (ks : List DocKey). has_key ks k) (sym settles.walk) ∙ has)
+
   pub stepped_operands : KeepsKeys (walk_of v.0 news after next) (map view v.1) news
   stepped_operands =
       subst (λ (w : Whole C). KeepsKeys (walk_of w.0 news after next) (map view w.1) news) is
-      (KeepsKeys_trans (united mids) (walk_of rule news after next) (map view cands) mids news
-      (λ k has. walk_of-united rule mids after next k (ap (λ (ks : List DocKey). has_key ks k) (sym settles.walk) ∙ has)) keeps settles.operands)
+      (KeepsKeys_trans (united mids) (walk_of rule news after next) (map view cands) mids news within_mids keeps settles.operands)
+
+  pub stepped_passed : HavePassed (walk_of v.0 news after next) (map view v.1) news
+  stepped_passed =
+      subst (λ (w : Whole C). HavePassed (walk_of w.0 news after next) (map view w.1) news) is
+      (passed_trans (united mids) (walk_of rule news after next) (map view cands) mids news (IsRanked-united mids) within_mids passes settles.passed)
 
 -- ---- a seek is over
 

@@ -3,6 +3,7 @@ use Rattle.std.specs.Prelude.{◌≡◌, ℕ, ◌≤◌, true, List, [], length,
 use Rattle.uni_base.specs.declared.entity.DocKey.{DocKey}
 use Rattle.uni_base.specs.KeySets.{has_key, united, KeepsKeys}
 use Rattle.uni_base.specs.Walks.{Quota, weak_walk, strong_walk}
+use Rattle.set_cursors.specs.Passed.{HavePassed}
 use Rattle.weak_strong.specs.declared.rule.Rule.{Rule}
 use Rattle.weak_strong.specs.declared.rule.Rule.TheVariants.{Weak, Strong}
 use Rattle.weak_strong.specs.Places.{place_of}
@@ -31,9 +32,10 @@ pub record IsWalking (rule : Rule) (lists : List (List DocKey)) (counters : List
   pub counted : IsCounted lists counters kept
   pub settled : IsSettled rule lists counters kept at
 
--- candidates were passed up to the first that the walk keeps: it keeps what it kept, and each operand has of
--- that what it had
+-- candidates were passed up to the first that the walk keeps: it keeps what it kept; each operand has of that
+-- what it had, and has passed what comes before
 pub record HasSettled (rule : Rule) (counters : List (Quota × ℕ)) (kept : ℕ) (olds news : List (List DocKey)) (at : Option DocKey) : Type 0 where
   pub walking : IsWalking rule news counters kept at
   pub walk : walk_of rule news counters kept ≡ walk_of rule olds counters kept
   pub operands : KeepsKeys (walk_of rule news counters kept) olds news
+  pub passed : HavePassed (walk_of rule news counters kept) olds news

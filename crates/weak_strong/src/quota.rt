@@ -1,5 +1,6 @@
 ghost use Rattle.std.specs.Prelude.{◌≡◌, ◌<◌, IfOk, Some, [], drop, length, map, slice_get, slice_index_or};
 ghost use Rattle.std.specs.Bool.{OnTrue};
+ghost use Rattle.set_cursors.specs.Passed.{HavePassed};
 ghost use Rattle.uni_base.specs.Cursors.{IsRanked, keys_from};
 ghost use Rattle.uni_base.specs.KeySets.{has_first, KeepsKeys};
 ghost use Rattle.weak_strong.specs.Walking.{walk_of};
@@ -40,6 +41,8 @@ impl<W: Walk, C: DocCursor + Drop> QuotaCursor<W, C> {
             walk_of W.rule (map C.remaining c.0) c.1 c.2 ≡ walk_of W.rule lists (map (λ o. (W.quota o.1, 0)) operands.items) 0) }
         ensures operands { IfOk result (λ c. let lists = map (λ o. C.remaining o.0) operands.items in
             KeepsKeys (walk_of W.rule (map C.remaining c.0) c.1 c.2) lists (map C.remaining c.0)) }
+        ensures passed { IfOk result (λ c. let lists = map (λ o. C.remaining o.0) operands.items in
+            HavePassed (walk_of W.rule (map C.remaining c.0) c.1 c.2) lists (map C.remaining c.0)) }
     {
         let mut parts = Parts::new(alloc);
         for (cursor, mark) in operands {
@@ -68,6 +71,8 @@ impl<W: Walk, C: DocCursor> DocCursor for QuotaCursor<W, C> {
             ≡ drop 1 (walk_of W.rule (map C.remaining self.old.0) self.old.1 self.old.2) }
         ensures operands { KeepsKeys (walk_of W.rule (map C.remaining self.new.0) self.new.1 self.new.2)
             (map C.remaining self.old.0) (map C.remaining self.new.0) }
+        ensures passed { HavePassed (walk_of W.rule (map C.remaining self.new.0) self.new.1 self.new.2)
+            (map C.remaining self.old.0) (map C.remaining self.new.0) }
     {
         self.walking.step();
     }
@@ -76,6 +81,8 @@ impl<W: Walk, C: DocCursor> DocCursor for QuotaCursor<W, C> {
         ensures after { walk_of W.rule (map C.remaining self.new.0) self.new.1 self.new.2
             ≡ keys_from from (walk_of W.rule (map C.remaining self.old.0) self.old.1 self.old.2) }
         ensures operands { KeepsKeys (walk_of W.rule (map C.remaining self.new.0) self.new.1 self.new.2)
+            (map C.remaining self.old.0) (map C.remaining self.new.0) }
+        ensures passed { HavePassed (walk_of W.rule (map C.remaining self.new.0) self.new.1 self.new.2)
             (map C.remaining self.old.0) (map C.remaining self.new.0) }
     {
         self.walking.seek(from);

@@ -1,5 +1,6 @@
 ghost use Rattle.std.specs.Prelude.{◌≡◌, ◌+◌, ◌-◌, ◌<◌, ◌≤◌, ◌^◌, [], ◌∷◌, ◌++◌, All, OnOk, Some, drop, length, map, slice_get, slice_index_or, true};
 ghost use Rattle.std.specs.Bool.{OnTrue};
+ghost use Rattle.set_cursors.specs.Passed.{HavePassed};
 ghost use Rattle.uni_base.specs.Cursors.{IsRanked, keys_from};
 ghost use Rattle.uni_base.specs.KeySets.{has_first, united, KeepsKeys};
 ghost use Rattle.uni_base.specs.Walks.{walked};
@@ -138,6 +139,8 @@ impl<C: DocCursor> Walking<C> {
             ≡ walk_of rule (map C.remaining operands.items) (map counter_of counters.items) 0 }
         ensures operands { KeepsKeys (walk_of rule (map C.remaining result.1) result.2 result.3)
             (map C.remaining operands.items) (map C.remaining result.1) }
+        ensures passed { HavePassed (walk_of rule (map C.remaining result.1) result.2 result.3)
+            (map C.remaining operands.items) (map C.remaining result.1) }
     {
         let mut candidates = OrCursor::new(operands);
         let at = settle(rule, &mut candidates, counters.as_slice(), 0);
@@ -153,6 +156,8 @@ impl<C: DocCursor> Walking<C> {
     pub(crate) fn peek(&self) -> Option<DocKey>
         ensures first { result ≡ slice_get (walk_of self.now.0 (map C.remaining self.now.1) self.now.2 self.now.3) 0 }
         ensures ranked { IsRanked (walk_of self.now.0 (map C.remaining self.now.1) self.now.2 self.now.3) }
+        ensures stands { let lists = map C.remaining self.now.1 in
+            HavePassed (walk_of self.now.0 lists self.now.2 self.now.3) lists lists }
     {
         self.at
     }
@@ -179,6 +184,8 @@ impl<C: DocCursor> Walking<C> {
         ensures walk { walk_of self.old.0 (map C.remaining self.new.1) self.new.2 self.new.3
             ≡ drop 1 (walk_of self.old.0 (map C.remaining self.old.1) self.old.2 self.old.3) }
         ensures operands { KeepsKeys (walk_of self.old.0 (map C.remaining self.new.1) self.new.2 self.new.3)
+            (map C.remaining self.old.1) (map C.remaining self.new.1) }
+        ensures passed { HavePassed (walk_of self.old.0 (map C.remaining self.new.1) self.new.2 self.new.3)
             (map C.remaining self.old.1) (map C.remaining self.new.1) }
     {
         if let Some(key) = self.at {
@@ -210,6 +217,8 @@ impl<C: DocCursor> Walking<C> {
             ≡ keys_from from (walk_of self.old.0 (map C.remaining self.old.1) self.old.2 self.old.3) }
         ensures operands { KeepsKeys (walk_of self.old.0 (map C.remaining self.new.1) self.new.2 self.new.3)
             (map C.remaining self.old.1) (map C.remaining self.new.1) }
+        ensures passed { HavePassed (walk_of self.old.0 (map C.remaining self.new.1) self.new.2 self.new.3)
+            (map C.remaining self.old.1) (map C.remaining self.new.1) }
     {
         self.candidates.seek(from);
         self.at = self.candidates.leap();
@@ -221,6 +230,8 @@ impl<C: DocCursor> Walking<C> {
         ensures walk { walk_of self.old.0 (map C.remaining self.new.1) self.new.2 self.new.3
             ≡ keys_from from (walk_of self.old.0 (map C.remaining self.old.1) self.old.2 self.old.3) }
         ensures operands { KeepsKeys (walk_of self.old.0 (map C.remaining self.new.1) self.new.2 self.new.3)
+            (map C.remaining self.old.1) (map C.remaining self.new.1) }
+        ensures passed { HavePassed (walk_of self.old.0 (map C.remaining self.new.1) self.new.2 self.new.3)
             (map C.remaining self.old.1) (map C.remaining self.new.1) }
     {
         while let Some(key) = self.peek() {

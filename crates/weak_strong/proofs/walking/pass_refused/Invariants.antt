@@ -1,5 +1,6 @@
 use Rattle.std.proofs.Common.{◌≡◌, length, map}
 use Rattle.uni_base.specs.KeySets.{united, KeepsKeys}
+use Rattle.set_cursors.specs.Passed.{HavePassed}
 use Rattle.weak_strong.specs.Marks.{counter_of}
 use Rattle.weak_strong.specs.Walking.{IsCounted, walk_of}
 use Rattle.weak_strong.proofs.walking.pass_refused.Given as goal
@@ -13,6 +14,7 @@ invariant-loop-key g l =
       counted : IsCounted nows counters l.kept;
       walk : walk_of l.rule nows counters l.kept ≡ walk_of l.rule olds counters l.kept;
       operands : KeepsKeys (united nows) olds nows;
+      passed : HavePassed (united nows) olds nows;
     }
 
 abbrev pub decreases-loop-key : goal.decreases-loop-key

@@ -6,7 +6,7 @@ use Rattle.weak_strong.specs.Marks.{counter_of}
 use Rattle.weak_strong.specs.Walking.{HasSettled, IsCounted}
 use Rattle.weak_strong.proofs.Counting.{first_among}
 use Rattle.weak_strong.proofs.Settled.{owns_below}
-use Rattle.weak_strong.proofs.Whole.{counted_next, none_from, stepped_walk, stepped_operands, whole_end}
+use Rattle.weak_strong.proofs.Whole.{counted_next, none_from, stepped_walk, stepped_operands, stepped_passed, whole_end, whole_passed}
 use Rattle.weak_strong.proofs.walking.Walking.step.Goals as goal
 
 pub next-kept-requires : goal.next-kept-requires
@@ -34,7 +34,7 @@ returns-in-Some-clause-walk g c =
     let view = g.C.DocCursor.remaining in
     stepped_walk view c.args.self.now c.self.inside.rule c.self.inside.candidates (map counter_of c.self.inside.counters.items) (map counter_of c.count.new.counters.items) c.self.inside.kept c.next-kept.result
     c.self.view_is c.self.inside.at c.self.invariant.settled c.in-Some.key c.in-Some.is c.next-kept.ensures.value c.count.ensures.walked (map view c.step.new.self) (map view c.settle-self-inside.new.candidates)
-    c.step.ensures.after c.step.ensures.operands c.settle-self-inside.result
+    c.step.ensures.after c.step.ensures.operands c.step.ensures.passed c.settle-self-inside.result
     (subst (λ (cs : List Counter). HasSettled c.self.inside.rule (map counter_of cs) c.next-kept.result (map view c.step.new.self) (map view c.settle-self-inside.new.candidates) c.settle-self-inside.result)
     c.as_slice.ensures.value c.settle-self-inside.ensures)
 
@@ -43,6 +43,19 @@ returns-in-Some-clause-operands g c =
     let view = g.C.DocCursor.remaining in
     stepped_operands view c.args.self.now c.self.inside.rule c.self.inside.candidates (map counter_of c.self.inside.counters.items) (map counter_of c.count.new.counters.items) c.self.inside.kept c.next-kept.result
     c.self.view_is c.self.inside.at c.self.invariant.settled c.in-Some.key c.in-Some.is c.next-kept.ensures.value c.count.ensures.walked (map view c.step.new.self) (map view c.settle-self-inside.new.candidates)
-    c.step.ensures.after c.step.ensures.operands c.settle-self-inside.result
+    c.step.ensures.after c.step.ensures.operands c.step.ensures.passed c.settle-self-inside.result
     (subst (λ (cs : List Counter). HasSettled c.self.inside.rule (map counter_of cs) c.next-kept.result (map view c.step.new.self) (map view c.settle-self-inside.new.candidates) c.settle-self-inside.result)
     c.as_slice.ensures.value c.settle-self-inside.ensures)
+
+pub returns-in-Some-clause-passed : goal.returns-in-Some-clause-passed
+returns-in-Some-clause-passed g c =
+    let view = g.C.DocCursor.remaining in
+    stepped_passed view c.args.self.now c.self.inside.rule c.self.inside.candidates (map counter_of c.self.inside.counters.items) (map counter_of c.count.new.counters.items) c.self.inside.kept c.next-kept.result
+    c.self.view_is c.self.inside.at c.self.invariant.settled c.in-Some.key c.in-Some.is c.next-kept.ensures.value c.count.ensures.walked (map view c.step.new.self) (map view c.settle-self-inside.new.candidates)
+    c.step.ensures.after c.step.ensures.operands c.step.ensures.passed c.settle-self-inside.result
+    (subst (λ (cs : List Counter). HasSettled c.self.inside.rule (map counter_of cs) c.next-kept.result (map view c.step.new.self) (map view c.settle-self-inside.new.candidates) c.settle-self-inside.result)
+    c.as_slice.ensures.value c.settle-self-inside.ensures)
+
+pub returns-in_default-clause-passed : goal.returns-in_default-clause-passed
+returns-in_default-clause-passed g c =
+    whole_passed g.C.DocCursor.remaining c.args.self.now c.self.inside.rule c.self.inside.candidates (map counter_of c.self.inside.counters.items) c.self.inside.kept c.self.view_is c.self.inside.at c.self.invariant.settled
