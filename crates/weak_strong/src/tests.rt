@@ -161,16 +161,16 @@ fn hits(left: u32) -> Question {
     Question::Weak(WeakMark::Hits(left), WeakMark::Hits(0))
 }
 
-fn share(n: u32) -> Question
-    requires { (1 ≤ n) × (n ≤ 6) }
+fn share(n: u32, d: u32) -> Question
+    requires { (1 ≤ n) × (n ≤ d) × (d ≤ 1000) }
 {
-    Question::Weak(WeakMark::Weight(Fraction { n, d: 6 }), WeakMark::Hits(0))
+    Question::Weak(WeakMark::Weight(Fraction { n, d }), WeakMark::Hits(0))
 }
 
-fn floor(n: u32) -> Question
-    requires { (1 ≤ n) × (n ≤ 2) }
+fn floor(n: u32, d: u32) -> Question
+    requires { (1 ≤ n) × (n ≤ d) × (d ≤ 1000) }
 {
-    Question::Strong(Some(Fraction { n, d: 2 }), None)
+    Question::Strong(Some(Fraction { n, d }), None)
 }
 
 #[test]
@@ -196,18 +196,18 @@ fn questions_have_these_keys_from_each_key_on(rt: HostRuntime) -> Result<(), Fai
         (hits(1), none, none, none),
         (hits(0), &FRIENDS, &ROMANS, &[2, 5]),
         // friends are a half, two thirds or all of the hits
-        (share(3), &[2], &[2, 6, 4], &[2, 6, 4]),
-        (share(3), &[3, 5], &[5], &[5]),
-        (share(4), &[2], &[2, 6, 4], &[2, 6]),
-        (share(4), &[3, 5], &[5], &[5]),
-        (share(6), &[2], &[2, 6, 4], &[2]),
-        (share(6), &[3, 5], &[5], &[5]),
+        (share(1, 2), &[2], &[2, 6, 4], &[2, 6, 4]),
+        (share(1, 2), &[3, 5], &[5], &[5]),
+        (share(2, 3), &[2], &[2, 6, 4], &[2, 6]),
+        (share(2, 3), &[3, 5], &[5], &[5]),
+        (share(1, 1), &[2], &[2, 6, 4], &[2]),
+        (share(1, 1), &[3, 5], &[5], &[5]),
         // half of the hits live in Rome, also where one more friend follows the third
-        (floor(1), &ROMANS, &FRIENDS, &[2, 3, 5, 6, 4]),
-        (floor(1), &[2, 6, 4], &[2], &[2, 6, 4]),
-        (floor(1), &[5], &[3, 7, 5], &[3, 5]),
-        (floor(1), &[6, 4], &[3, 5, 6], &[3, 6, 4]),
-        (floor(2), &[6, 4], &FRIENDS, &[6, 4]),
+        (floor(1, 2), &ROMANS, &FRIENDS, &[2, 3, 5, 6, 4]),
+        (floor(1, 2), &[2, 6, 4], &[2], &[2, 6, 4]),
+        (floor(1, 2), &[5], &[3, 7, 5], &[3, 5]),
+        (floor(1, 2), &[6, 4], &[3, 5, 6], &[3, 6, 4]),
+        (floor(1, 1), &[6, 4], &FRIENDS, &[6, 4]),
         (
             Question::Strong(None, None),
             &FRIENDS,
