@@ -9,7 +9,7 @@ use Rattle.uni_base.specs.Cursors.{is_before, IsRanked, keys_from}
 use Rattle.uni_base.specs.KeySets.{has_key, united, without}
 use Rattle.uni_base.proofs.RankedLemmas.{filter_filter, has_key-keys_from, has_key-not_before, is_eq_self, IsBeforeAll-head, keys_from-keys_from, same_from_is_eq}
 use Rattle.uni_base.proofs.UnitedLemmas.{has_key-united, IsRanked-united}
-use Rattle.set_cursors.specs.Passed.{HavePassed}
+use Rattle.set_cursors.specs.Passed.{HasMoved, HavePassed}
 
 -- the first key of the rest comes after the first
 pub later_head : (keys : List DocKey) (key k : DocKey) → IsRanked keys → Some key ≡ slice_get keys 0 → slice_get (drop 1 keys) 0 ≡ Some k → is_before key k ≡ true
@@ -95,3 +95,11 @@ module _ {C : Type 0} (view : C → List DocKey) (news olds was : List C) (is : 
       let moved = moves ∙ ap (λ (xs : List C). map (without key) (map view xs)) is in
       let later = later_head (united (map view olds)) key k (IsRanked-united (map view olds)) here (ap (λ (ks : List DocKey). slice_get ks 0) (sym after) ∙ first) in
       moved ∙ moved_lists k (without key) (map view olds) (λ ks. from_without key k ks later) (ap (λ (ls : List (List DocKey)). slice_get (united ls) 0) (sym moved) ∙ first)
+
+-- a cursor that is at its end stays
+pub moved_nowhere : (keys : List (List DocKey) → List DocKey) (lists : List (List DocKey)) → ((k : DocKey) → slice_get (keys lists) 0 ≡ Some k → ⊥) → HasMoved keys (drop 1 (keys lists)) lists lists
+moved_nowhere keys lists ended = record { after = by (keys lists) ended; operands = record { count = refl; holders_stay = λ k has. refl }; passed = λ k e. absurd (ended k e) }
+  where
+    by : (ks : List DocKey) → ((k : DocKey) → slice_get ks 0 ≡ Some k → ⊥) → ks ≡ drop 1 ks
+    by [] none = refl
+    by (x ∷ xs) none = absurd (none x refl)

@@ -32,10 +32,8 @@ pub reached_nowhere : (count before after : ℕ) (olds news : List (List DocKey)
 reached_nowhere count before after olds news keeps parts stands few = record {
   stands = stands;
   ranked = λ k e. absurd cc;
-  common_stays = common_same olds news keeps;
-  operands = KeepsKeys-shared olds news keeps;
+  moved = record { after = common_same olds news keeps; operands = KeepsKeys-shared olds news keeps; passed = λ k e. absurd (let f = stands.first_is ∙ e in cc) };
   parts = parts;
-  passed = λ k e. absurd (let f = stands.first_is ∙ e in cc);
   few = few;
   enough = enough_none before after count (common news) stands.first_is;
 }
@@ -46,10 +44,8 @@ pub reached_there : (count before made after : ℕ) (key at : DocKey) (olds mids
 reached_there count before made after key at olds mids news asked here keeps parts same paid some few enough = record {
   stands = stands;
   ranked = λ k e i within. ((asked.reached at refl).each_moved i (omega (arith, asked.count))).ranked;
-  common_stays = common_same olds news whole;
-  operands = KeepsKeys-shared olds news whole;
+  moved = record { after = common_same olds news whole; operands = KeepsKeys-shared olds news whole; passed = passed };
   parts = λ i. IsPart_trans (get_or olds i []) (get_or mids i []) (get_or news i []) (parts i) (asked.parts i);
-  passed = passed;
   few = last_paid before made after key (Some at) olds mids news paid keeps.count few asked;
   enough = enough_all before after count (common news) enough;
 }

@@ -3,11 +3,11 @@ use Rattle.std.specs.Prelude.{◌≡◌, ◌<◌, ◌≤◌, ℕ, Bool, true, fa
 use Rattle.std.specs.List.{list_all}
 use Rattle.uni_base.specs.declared.entity.DocKey.{DocKey}
 use Rattle.uni_base.specs.Cursors.{is_before, IsRanked, keys_from}
-use Rattle.uni_base.specs.KeySets.{has_key, united, KeepsKeys}
+use Rattle.uni_base.specs.KeySets.{has_key, united}
 use Rattle.set_cursors.specs.Filters.{common}
 use Rattle.set_cursors.specs.Firsts.{is_first}
 use Rattle.set_cursors.specs.Moves.{AreEnough, AreFew}
-use Rattle.set_cursors.specs.Passed.{HavePassed}
+use Rattle.set_cursors.specs.Passed.{HasMoved}
 
 -- it stands at the first common key, which each operand is at
 pub record StandsAt (first : Option DocKey) (lists : List (List DocKey)) : Type 0 where
@@ -55,19 +55,10 @@ pub record IsAsked (asked : DocKey) (answer : Option DocKey) (olds news : List (
 pub record HasReached (count : ℕ) (first : Option DocKey) (before after : ℕ) (olds news : List (List DocKey)) : Type 0 where
   pub stands : StandsAt first news
   pub ranked : (k : DocKey) → first ≡ Some k → (i : ℕ) → i < length news → IsRanked (slice_index_or news i [])
-  pub common_stays : common news ≡ common olds
-  pub operands : KeepsKeys (common news) olds news
+  pub moved : HasMoved common (common olds) olds news
   pub parts : (i : ℕ) → IsPart (slice_index_or olds i []) (slice_index_or news i [])
-  pub passed : HavePassed (common news) olds news
   pub few : AreFew before after olds news
   pub enough : AreEnough before after count (common news)
-
--- operands have leapt: their common keys are those that were to be left; each keeps those that it had, and
--- has passed what comes before the first
-pub record HasLeapt (left : List DocKey) (olds news : List (List DocKey)) : Type 0 where
-  pub keys : common news ≡ left
-  pub operands : KeepsKeys left olds news
-  pub passed : HavePassed left olds news
 
 -- the first list has those of its keys left that pass a test, and the others have all of theirs
 abbrev pub first_filtered : (DocKey → Bool) → List (List DocKey) → List (List DocKey)

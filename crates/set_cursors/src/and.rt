@@ -1,9 +1,8 @@
 ghost use Rattle.std.specs.Prelude.{◌≡◌, ◌+◌, ◌<◌, List, [], drop, length, map, slice_get, slice_index_or, Some};
 ghost use Rattle.std.specs.Bool.{OnTrue};
 ghost use Rattle.set_cursors.specs.Filters.{common};
-ghost use Rattle.set_cursors.specs.Leaps.{HasLeapt};
 ghost use Rattle.set_cursors.specs.Moves.{AreEnough, AreFew};
-ghost use Rattle.set_cursors.specs.Passed.{HavePassed};
+ghost use Rattle.set_cursors.specs.Passed.{HasMoved};
 ghost use Rattle.uni_base.specs.Cursors.{IsRanked, keys_from};
 ghost use Rattle.uni_base.specs.KeySets.{has_first, KeepsKeys};
 
@@ -38,11 +37,7 @@ impl<C: DocCursor> AndCursor<C> {
     /// The cursor over these operands, each moved to the first key that all have. It is at its end where
     /// there is no operand.
     pub fn new(operands: Vec<C>) -> AndCursor<C>
-        ensures keys { common (map C.remaining result) ≡ common (map C.remaining operands.items) }
-        ensures operands { let olds = map C.remaining operands.items in let news = map C.remaining result in
-            KeepsKeys (common news) olds news }
-        ensures passed { let olds = map C.remaining operands.items in let news = map C.remaining result in
-            HavePassed (common news) olds news }
+        ensures { let olds = map C.remaining operands.items in HasMoved common (common olds) olds (map C.remaining result) }
     {
         AndCursor::new_over::<Brand>(operands, Blank::new(1))
     }
@@ -50,18 +45,14 @@ impl<C: DocCursor> AndCursor<C> {
     fn new_over<L: Ledger>(operands: Vec<C>, blank: Blank) -> AndCursor<C>
         requires name { blank.name ≡ L.name }
         requires parts { (blank.parts ≡ L.parts) × (0 < blank.parts) }
-        ensures { let olds = map C.remaining operands.items in HasLeapt (common olds) olds (map C.remaining result) }
+        ensures { let olds = map C.remaining operands.items in HasMoved common (common olds) olds (map C.remaining result) }
     {
         AndCursor::new_counted(operands, &mut Steps::<L>::new(blank))
     }
 
     /// As `new`, and counts each seek of an operand as one step.
     pub fn new_counted<L: Ledger>(operands: Vec<C>, moves: &mut Steps<L>) -> AndCursor<C>
-        ensures keys { common (map C.remaining result) ≡ common (map C.remaining operands.items) }
-        ensures operands { let olds = map C.remaining operands.items in let news = map C.remaining result in
-            KeepsKeys (common news) olds news }
-        ensures passed { let olds = map C.remaining operands.items in let news = map C.remaining result in
-            HavePassed (common news) olds news }
+        ensures moved { let olds = map C.remaining operands.items in HasMoved common (common olds) olds (map C.remaining result) }
         ensures few { AreFew moves.old moves.new (map C.remaining operands.items) (map C.remaining result) }
         ensures enough { AreEnough moves.old moves.new (length operands.items) (common (map C.remaining result)) }
     {
@@ -73,12 +64,8 @@ impl<C: DocCursor> AndCursor<C> {
     /// As `step`, and counts each step and each seek of an operand as one step. There is one move, and then
     /// no more than the operand that passes the fewest keys allows.
     pub fn step_counted<L: Ledger>(&mut self, moves: &mut Steps<L>)
-        ensures after { let olds = map C.remaining self.old in let news = map C.remaining self.new in
-            common news ≡ drop 1 (common olds) }
-        ensures operands { let olds = map C.remaining self.old in let news = map C.remaining self.new in
-            KeepsKeys (common news) olds news }
-        ensures passed { let olds = map C.remaining self.old in let news = map C.remaining self.new in
-            HavePassed (common news) olds news }
+        ensures moved { let olds = map C.remaining self.old in
+            HasMoved common (drop 1 (common olds)) olds (map C.remaining self.new) }
         ensures few { AreFew (moves.old + 1) moves.new (map C.remaining self.old) (map C.remaining self.new) }
         ensures enough { AreEnough (moves.old + 1) moves.new (length self.old) (common (map C.remaining self.new)) }
     {
@@ -91,7 +78,7 @@ impl<C: DocCursor> AndCursor<C> {
     fn step_over<L: Ledger>(&mut self, blank: Blank)
         requires name { blank.name ≡ L.name }
         requires parts { (blank.parts ≡ L.parts) × (0 < blank.parts) }
-        ensures { let olds = map C.remaining self.old in HasLeapt (drop 1 (common olds)) olds (map C.remaining self.new) }
+        ensures { let olds = map C.remaining self.old in HasMoved common (drop 1 (common olds)) olds (map C.remaining self.new) }
     {
         self.step_counted(&mut Steps::<L>::new(blank));
     }
@@ -99,12 +86,8 @@ impl<C: DocCursor> AndCursor<C> {
     /// As `seek`, and counts each seek of an operand as one step. There is one move, and then no more than the
     /// operand that passes the fewest keys allows.
     pub fn seek_counted<L: Ledger>(&mut self, from: DocKey, moves: &mut Steps<L>)
-        ensures after { let olds = map C.remaining self.old in let news = map C.remaining self.new in
-            common news ≡ keys_from from (common olds) }
-        ensures operands { let olds = map C.remaining self.old in let news = map C.remaining self.new in
-            KeepsKeys (common news) olds news }
-        ensures passed { let olds = map C.remaining self.old in let news = map C.remaining self.new in
-            HavePassed (common news) olds news }
+        ensures moved { let olds = map C.remaining self.old in
+            HasMoved common (keys_from from (common olds)) olds (map C.remaining self.new) }
         ensures few { AreFew (moves.old + 1) moves.new (map C.remaining self.old) (map C.remaining self.new) }
         ensures enough { AreEnough (moves.old + 1) moves.new (length self.old) (common (map C.remaining self.new)) }
     {
@@ -116,7 +99,7 @@ impl<C: DocCursor> AndCursor<C> {
         requires name { blank.name ≡ L.name }
         requires parts { (blank.parts ≡ L.parts) × (0 < blank.parts) }
         ensures { let olds = map C.remaining self.old in
-            HasLeapt (keys_from from (common olds)) olds (map C.remaining self.new) }
+            HasMoved common (keys_from from (common olds)) olds (map C.remaining self.new) }
     {
         self.seek_counted(from, &mut Steps::<L>::new(blank));
     }
@@ -133,23 +116,15 @@ impl<C: DocCursor> DocCursor for AndCursor<C> {
     }
 
     fn step(&mut self)
-        ensures after { let olds = map C.remaining self.old in let news = map C.remaining self.new in
-            common news ≡ drop 1 (common olds) }
-        ensures operands { let olds = map C.remaining self.old in let news = map C.remaining self.new in
-            KeepsKeys (common news) olds news }
-        ensures passed { let olds = map C.remaining self.old in let news = map C.remaining self.new in
-            HavePassed (common news) olds news }
+        ensures { let olds = map C.remaining self.old in
+            HasMoved common (drop 1 (common olds)) olds (map C.remaining self.new) }
     {
         self.step_over::<Brand>(Blank::new(1));
     }
 
     fn seek(&mut self, from: DocKey)
-        ensures after { let olds = map C.remaining self.old in let news = map C.remaining self.new in
-            common news ≡ keys_from from (common olds) }
-        ensures operands { let olds = map C.remaining self.old in let news = map C.remaining self.new in
-            KeepsKeys (common news) olds news }
-        ensures passed { let olds = map C.remaining self.old in let news = map C.remaining self.new in
-            HavePassed (common news) olds news }
+        ensures { let olds = map C.remaining self.old in
+            HasMoved common (keys_from from (common olds)) olds (map C.remaining self.new) }
     {
         self.seek_over::<Brand>(from, Blank::new(1));
     }

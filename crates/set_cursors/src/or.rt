@@ -1,8 +1,7 @@
 ghost use Rattle.std.specs.Prelude.{◌≡◌, ◌<◌, ℕ, List, [], drop, false, length, map, slice_get, slice_index_or, Some, true};
 ghost use Rattle.std.specs.Bool.{OnTrue};
 ghost use Rattle.set_cursors.specs.Filters.{common};
-ghost use Rattle.set_cursors.specs.Leaps.{HasLeapt};
-ghost use Rattle.set_cursors.specs.Passed.{HavePassed};
+ghost use Rattle.set_cursors.specs.Passed.{HasMoved};
 ghost use Rattle.uni_base.specs.declared.entity.DocKey.{DocKey as Keys};
 ghost use Rattle.uni_base.specs.Cursors.{IsRanked, keys_from};
 ghost use Rattle.uni_base.specs.KeySets.{has_first, has_key, united, KeepsKeys};
@@ -48,11 +47,7 @@ impl<C: DocCursor> OrCursor<C> {
     pub fn leap(&mut self) -> Option<DocKey>
         ensures first { result ≡ slice_get (common (map C.remaining self.old)) 0 }
         ensures stands { (k : Keys) → result ≡ Some k → slice_get (united (map C.remaining self.new)) 0 ≡ Some k }
-        ensures keys { common (map C.remaining self.new) ≡ common (map C.remaining self.old) }
-        ensures operands { let olds = map C.remaining self.old in let news = map C.remaining self.new in
-            KeepsKeys (common news) olds news }
-        ensures passed { let olds = map C.remaining self.old in let news = map C.remaining self.new in
-            HavePassed (common news) olds news }
+        ensures moved { let olds = map C.remaining self.old in HasMoved common (common olds) olds (map C.remaining self.new) }
         ensures within { (k : Keys) → has_key (united (map C.remaining self.new)) k ≡ true
             → has_key (united (map C.remaining self.old)) k ≡ true }
     {
@@ -64,7 +59,7 @@ impl<C: DocCursor> OrCursor<C> {
         requires parts { (blank.parts ≡ L.parts) × (0 < blank.parts) }
         ensures first { result ≡ slice_get (common (map C.remaining self.old)) 0 }
         ensures stands { (k : Keys) → result ≡ Some k → slice_get (united (map C.remaining self.new)) 0 ≡ Some k }
-        ensures leapt { let olds = map C.remaining self.old in HasLeapt (common olds) olds (map C.remaining self.new) }
+        ensures moved { let olds = map C.remaining self.old in HasMoved common (common olds) olds (map C.remaining self.new) }
         ensures within { (k : Keys) → has_key (united (map C.remaining self.new)) k ≡ true
             → has_key (united (map C.remaining self.old)) k ≡ true }
     {
@@ -85,12 +80,7 @@ impl<C: DocCursor> DocCursor for OrCursor<C> {
     }
 
     fn step(&mut self)
-        ensures after { let olds = map C.remaining self.old in let news = map C.remaining self.new in
-            united news ≡ drop 1 (united olds) }
-        ensures operands { let olds = map C.remaining self.old in let news = map C.remaining self.new in
-            KeepsKeys (united news) olds news }
-        ensures passed { let olds = map C.remaining self.old in let news = map C.remaining self.new in
-            HavePassed (united news) olds news }
+        ensures moved { let olds = map C.remaining self.old in HasMoved united (drop 1 (united olds)) olds (map C.remaining self.new) }
         ensures others { let lists = map C.remaining self.old in (i : ℕ) → has_first (slice_index_or lists i []) (united lists) ≡ false
             → slice_get self.new i ≡ slice_get self.old i }
     {
@@ -101,12 +91,7 @@ impl<C: DocCursor> DocCursor for OrCursor<C> {
     }
 
     fn seek(&mut self, from: DocKey)
-        ensures after { let olds = map C.remaining self.old in let news = map C.remaining self.new in
-            united news ≡ keys_from from (united olds) }
-        ensures operands { let olds = map C.remaining self.old in let news = map C.remaining self.new in
-            KeepsKeys (united news) olds news }
-        ensures passed { let olds = map C.remaining self.old in let news = map C.remaining self.new in
-            HavePassed (united news) olds news }
+        ensures { let olds = map C.remaining self.old in HasMoved united (keys_from from (united olds)) olds (map C.remaining self.new) }
     {
         seek_all(&mut self.operands, &from);
         self.first = first_of(self.operands.as_slice());

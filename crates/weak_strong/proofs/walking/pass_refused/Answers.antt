@@ -29,10 +29,10 @@ loop-key-preserved g c =
     let first = sym c.in-Some.ensures.first in
     let refused = ap (λ n. keeps_by c.args.rule n (walkers nows counters) c.in-Some.key) (sym one) ∙ sym (c.is_kept.ensures c.in-Some.key first) ∙ c.if-is_kept.false in
     record {
-      counted = counted_on c.args.rule nows news counters c.args.kept c.step.ensures.after c.step.ensures.operands c.loop-key.invariant.counted;
-      walk = refused_on c.args.rule nows news counters c.args.kept c.step.ensures.after c.step.ensures.operands c.in-Some.key first refused ∙ c.loop-key.invariant.walk;
-      operands = KeepsKeys_trans (united nows) (united news) olds nows news (within_old c.args.rule nows news counters c.args.kept c.step.ensures.after c.step.ensures.operands) c.loop-key.invariant.operands c.step.ensures.operands;
-      passed = passed_trans (united nows) (united news) olds nows news (IsRanked-united nows) (within_old c.args.rule nows news counters c.args.kept c.step.ensures.after c.step.ensures.operands) c.loop-key.invariant.passed c.step.ensures.passed;
+      counted = counted_on c.args.rule nows news counters c.args.kept c.step.ensures.moved.after c.step.ensures.moved.operands c.loop-key.invariant.counted;
+      walk = refused_on c.args.rule nows news counters c.args.kept c.step.ensures.moved.after c.step.ensures.moved.operands c.in-Some.key first refused ∙ c.loop-key.invariant.walk;
+      operands = KeepsKeys_trans (united nows) (united news) olds nows news (within_old c.args.rule nows news counters c.args.kept c.step.ensures.moved.after c.step.ensures.moved.operands) c.loop-key.invariant.operands c.step.ensures.moved.operands;
+      passed = passed_trans (united nows) (united news) olds nows news (IsRanked-united nows) (within_old c.args.rule nows news counters c.args.kept c.step.ensures.moved.after c.step.ensures.moved.operands) c.loop-key.invariant.passed c.step.ensures.moved.passed;
     }
 
 pub returns : goal.returns

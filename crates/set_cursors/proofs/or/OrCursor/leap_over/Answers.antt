@@ -16,4 +16,4 @@ pub returns-clause-within : goal.returns-clause-within
 returns-clause-within g c k has =
     let view = g.C.DocCursor.remaining in
     ap (λ (xs : List g.row.C.Denot). has_key (united (map view xs)) k) (sym c.self.view_is)
-    ∙ united_parts (map view c.self.inside.operands.items) (map view c.leap-found.new.operands.items) c.leap-found.ensures.operands.count c.leap-found.ensures.parts k has
+    ∙ united_parts (map view c.self.inside.operands.items) (map view c.leap-found.new.operands.items) c.leap-found.ensures.moved.operands.count c.leap-found.ensures.parts k has

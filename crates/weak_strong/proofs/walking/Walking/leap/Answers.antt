@@ -8,7 +8,7 @@ invariant_of-self g c =
     let view = g.C.DocCursor.remaining in
     let leapt = c.leap-self-inside.ensures in
     let whole = leapt_to view c.args.self.now c.self.inside.rule c.self.inside.candidates (map counter_of c.self.inside.counters.items) c.self.inside.kept c.self.view_is c.requires c.self.invariant.counted
-    c.args.from (map view c.seek.new.self) (map view c.leap-self-inside.new.self) c.seek.ensures.after c.seek.ensures.operands c.seek.ensures.passed c.leap-self-inside.result leapt.first leapt.stands leapt.keys leapt.operands leapt.passed leapt.within in
+    c.args.from (map view c.seek.new.self) (map view c.leap-self-inside.new.self) c.seek.ensures.after c.seek.ensures.operands c.seek.ensures.passed c.leap-self-inside.result leapt.first leapt.stands leapt.moved.after leapt.moved.operands leapt.moved.passed leapt.within in
     whole.walking
 
 pub returns-clause-walk : goal.returns-clause-walk
@@ -16,7 +16,7 @@ returns-clause-walk g c =
     let view = g.C.DocCursor.remaining in
     let leapt = c.leap-self-inside.ensures in
     let whole = leapt_to view c.args.self.now c.self.inside.rule c.self.inside.candidates (map counter_of c.self.inside.counters.items) c.self.inside.kept c.self.view_is c.requires c.self.invariant.counted
-    c.args.from (map view c.seek.new.self) (map view c.leap-self-inside.new.self) c.seek.ensures.after c.seek.ensures.operands c.seek.ensures.passed c.leap-self-inside.result leapt.first leapt.stands leapt.keys leapt.operands leapt.passed leapt.within in
+    c.args.from (map view c.seek.new.self) (map view c.leap-self-inside.new.self) c.seek.ensures.after c.seek.ensures.operands c.seek.ensures.passed c.leap-self-inside.result leapt.first leapt.stands leapt.moved.after leapt.moved.operands leapt.moved.passed leapt.within in
     whole.walk
 
 pub returns-clause-operands : goal.returns-clause-operands
@@ -24,7 +24,7 @@ returns-clause-operands g c =
     let view = g.C.DocCursor.remaining in
     let leapt = c.leap-self-inside.ensures in
     let whole = leapt_to view c.args.self.now c.self.inside.rule c.self.inside.candidates (map counter_of c.self.inside.counters.items) c.self.inside.kept c.self.view_is c.requires c.self.invariant.counted
-    c.args.from (map view c.seek.new.self) (map view c.leap-self-inside.new.self) c.seek.ensures.after c.seek.ensures.operands c.seek.ensures.passed c.leap-self-inside.result leapt.first leapt.stands leapt.keys leapt.operands leapt.passed leapt.within in
+    c.args.from (map view c.seek.new.self) (map view c.leap-self-inside.new.self) c.seek.ensures.after c.seek.ensures.operands c.seek.ensures.passed c.leap-self-inside.result leapt.first leapt.stands leapt.moved.after leapt.moved.operands leapt.moved.passed leapt.within in
     whole.operands
 
 pub returns-clause-passed : goal.returns-clause-passed
@@ -32,5 +32,5 @@ returns-clause-passed g c =
     let view = g.C.DocCursor.remaining in
     let leapt = c.leap-self-inside.ensures in
     let whole = leapt_to view c.args.self.now c.self.inside.rule c.self.inside.candidates (map counter_of c.self.inside.counters.items) c.self.inside.kept c.self.view_is c.requires c.self.invariant.counted
-    c.args.from (map view c.seek.new.self) (map view c.leap-self-inside.new.self) c.seek.ensures.after c.seek.ensures.operands c.seek.ensures.passed c.leap-self-inside.result leapt.first leapt.stands leapt.keys leapt.operands leapt.passed leapt.within in
+    c.args.from (map view c.seek.new.self) (map view c.leap-self-inside.new.self) c.seek.ensures.after c.seek.ensures.operands c.seek.ensures.passed c.leap-self-inside.result leapt.first leapt.stands leapt.moved.after leapt.moved.operands leapt.moved.passed leapt.within in
     whole.passed

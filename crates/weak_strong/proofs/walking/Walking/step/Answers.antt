@@ -21,7 +21,7 @@ settle-self-inside-requires g c =
     let view = g.C.DocCursor.remaining in
     subst (λ (cs : List Counter). IsCounted (map view c.step.new.self) (map counter_of cs) c.next-kept.result) (sym c.as_slice.ensures.value)
     (counted_next (map view c.self.inside.candidates) (map view c.step.new.self) (map counter_of c.self.inside.counters.items) c.count.new.counters.items c.self.inside.kept c.next-kept.result c.in-Some.key
-    c.self.invariant.counted (sym (c.self.invariant.settled.stands c.in-Some.key c.in-Some.is)) c.next-kept.ensures.value c.next-kept.ensures.rank c.next-kept.ensures.id c.step.ensures.after c.step.ensures.operands
+    c.self.invariant.counted (sym (c.self.invariant.settled.stands c.in-Some.key c.in-Some.is)) c.next-kept.ensures.value c.next-kept.ensures.rank c.next-kept.ensures.id c.step.ensures.moved.after c.step.ensures.moved.operands
     (c.count.ensures.count ∙ sym (length-map c.self.inside.candidates view)) c.count.ensures.owns)
 
 pub returns-in_default-clause-walk : goal.returns-in_default-clause-walk
@@ -34,7 +34,7 @@ returns-in-Some-clause-walk g c =
     let view = g.C.DocCursor.remaining in
     stepped_walk view c.args.self.now c.self.inside.rule c.self.inside.candidates (map counter_of c.self.inside.counters.items) (map counter_of c.count.new.counters.items) c.self.inside.kept c.next-kept.result
     c.self.view_is c.self.inside.at c.self.invariant.settled c.in-Some.key c.in-Some.is c.next-kept.ensures.value c.count.ensures.walked (map view c.step.new.self) (map view c.settle-self-inside.new.candidates)
-    c.step.ensures.after c.step.ensures.operands c.step.ensures.passed c.settle-self-inside.result
+    c.step.ensures.moved.after c.step.ensures.moved.operands c.step.ensures.moved.passed c.settle-self-inside.result
     (subst (λ (cs : List Counter). HasSettled c.self.inside.rule (map counter_of cs) c.next-kept.result (map view c.step.new.self) (map view c.settle-self-inside.new.candidates) c.settle-self-inside.result)
     c.as_slice.ensures.value c.settle-self-inside.ensures)
 
@@ -43,7 +43,7 @@ returns-in-Some-clause-operands g c =
     let view = g.C.DocCursor.remaining in
     stepped_operands view c.args.self.now c.self.inside.rule c.self.inside.candidates (map counter_of c.self.inside.counters.items) (map counter_of c.count.new.counters.items) c.self.inside.kept c.next-kept.result
     c.self.view_is c.self.inside.at c.self.invariant.settled c.in-Some.key c.in-Some.is c.next-kept.ensures.value c.count.ensures.walked (map view c.step.new.self) (map view c.settle-self-inside.new.candidates)
-    c.step.ensures.after c.step.ensures.operands c.step.ensures.passed c.settle-self-inside.result
+    c.step.ensures.moved.after c.step.ensures.moved.operands c.step.ensures.moved.passed c.settle-self-inside.result
     (subst (λ (cs : List Counter). HasSettled c.self.inside.rule (map counter_of cs) c.next-kept.result (map view c.step.new.self) (map view c.settle-self-inside.new.candidates) c.settle-self-inside.result)
     c.as_slice.ensures.value c.settle-self-inside.ensures)
 
@@ -52,7 +52,7 @@ returns-in-Some-clause-passed g c =
     let view = g.C.DocCursor.remaining in
     stepped_passed view c.args.self.now c.self.inside.rule c.self.inside.candidates (map counter_of c.self.inside.counters.items) (map counter_of c.count.new.counters.items) c.self.inside.kept c.next-kept.result
     c.self.view_is c.self.inside.at c.self.invariant.settled c.in-Some.key c.in-Some.is c.next-kept.ensures.value c.count.ensures.walked (map view c.step.new.self) (map view c.settle-self-inside.new.candidates)
-    c.step.ensures.after c.step.ensures.operands c.step.ensures.passed c.settle-self-inside.result
+    c.step.ensures.moved.after c.step.ensures.moved.operands c.step.ensures.moved.passed c.settle-self-inside.result
     (subst (λ (cs : List Counter). HasSettled c.self.inside.rule (map counter_of cs) c.next-kept.result (map view c.step.new.self) (map view c.settle-self-inside.new.candidates) c.settle-self-inside.result)
     c.as_slice.ensures.value c.settle-self-inside.ensures)
 
