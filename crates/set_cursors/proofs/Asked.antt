@@ -4,11 +4,15 @@ use Rattle.std.proofs.lemmas.Bool.{cases_lt}
 use Rattle.std.proofs.lemmas.List.{get_or-map, get_or-set_other, get_or-set_same, length-map, length-set, map-set}
 use Rattle.std.proofs.lemmas.List.Folds.{list_all_at}
 use Rattle.std.proofs.lemmas.List.Sums.{count_by-le-length, length-filter}
+use Rattle.std.specs.declared.cmp.Ordering.{Ordering}
+use Rattle.std.specs.declared.cmp.Ordering.TheVariants.{Less, Equal, Greater}
+use Rattle.std.specs.Ordering.{is_lt}
+use Rattle.std.proofs.Math.Seq.{map-set_same}
 use Rattle.std.specs.List.{list_all}
 use Rattle.uni_base.specs.declared.entity.DocKey.{DocKey}
-use Rattle.uni_base.specs.Cursors.{is_before, IsRanked, keys_from}
+use Rattle.uni_base.specs.Cursors.{is_before, is_less, IsRanked, keys_from}
 use Rattle.uni_base.specs.KeySets.{has_key, united}
-use Rattle.uni_base.proofs.RankedLemmas.{has_key-keys_from, has_key-not_before, is_before_self, is_before_trans_left, is_eq_self, keys_from_head_is}
+use Rattle.uni_base.proofs.RankedLemmas.{has_key-keys_from, has_key-not_before, is_before_self, is_before_trans_left, is_eq_self, keys_from-here, keys_from_head_is}
 use Rattle.set_cursors.specs.Leaps.{HasNoCommonBefore, IsAsked, IsMoved, IsPart, IsReached}
 use Rattle.set_cursors.proofs.FirstKeys.{has_key-among}
 
@@ -197,3 +201,20 @@ module _ {C : Type 0} (view : C → List DocKey) (asked latest : DocKey) (ops no
             within = not_before_trans m.at latest at m.within later;
             ranked = subst IsRanked (sym same) m.ranked;
           }
+
+-- an operand that was not moved
+pub set_unmoved : {C : Type 0} (view : C → List DocKey) (nows : List C) (n : ℕ) (old new : C) (lists : List (List DocKey)) → old ≡ get_or nows n old → view new ≡ view old → map view nows ≡ lists → map view (set nows n new) ≡ lists
+set_unmoved view nows n old new lists is same before = map-set_same view nows n new old (same ∙ ap view is) ∙ before
+
+-- an operand that is at no key before one
+pub not_behind : (key at : DocKey) (keys : List DocKey) → Some at ≡ slice_get keys 0 → IsRanked keys → is_before at key ≡ false → keys ≡ keys_from key keys
+not_behind key at [] first ranked late = refl
+not_behind key at (x ∷ xs) first ranked late = let s : at ≡ x = cc in sym (keys_from-here key x xs ranked (subst (λ (y : DocKey). is_before y key ≡ false) s late))
+
+pub not_less : (o p : Ordering) (r : Bool) → p ≡ o → r ≡ is_lt p → r ≡ false → is_less o ≡ false
+not_less o p r e f h = ap is_less (sym e) ∙ by p (sym f ∙ h)
+  where
+    by : (q : Ordering) → is_lt q ≡ false → is_less q ≡ false
+    by Less g = absurd cc
+    by Equal g = refl
+    by Greater g = refl

@@ -13,7 +13,7 @@ use Rattle.set_cursors.specs.Filters.{common}
 use Rattle.set_cursors.specs.Leaps.{HasReached, IsAsked, IsPart, IsReached, StandsAt}
 use Rattle.set_cursors.specs.Moves.{AreFew}
 use Rattle.set_cursors.proofs.Shared.{IsPart_trans, KeepsShared, KeepsShared_trans, KeepsKeys-shared, asked_keeps, common_same, stands_there}
-use Rattle.set_cursors.proofs.Weights.{HasPaid, enough_all, enough_none, last_paid}
+use Rattle.set_cursors.proofs.Weights.{HasPaid, last_paid}
 
 -- from a key on, operands have what they had
 abbrev pub SameOn : DocKey → List (List DocKey) → List (List DocKey) → Type 0
@@ -27,27 +27,29 @@ same_on key at olds mids news count reached same i within b late =
     ∙ same i within b (not_before_trans key at b reached.not_before late)
 
 -- an operand is at its end
-pub reached_nowhere : (count before after : ℕ) (olds news : List (List DocKey)) → KeepsShared olds news → ((i : ℕ) → IsPart (get_or olds i []) (get_or news i [])) → StandsAt None news → AreFew before after olds news
-    → HasReached count None before after olds news
-reached_nowhere count before after olds news keeps parts stands few = record {
+pub reached_nowhere : (before after : ℕ) (olds news : List (List DocKey)) → KeepsShared olds news → ((i : ℕ) → IsPart (get_or olds i []) (get_or news i [])) → StandsAt None news → AreFew before after olds news
+    → before ≤ after → (after ≤ before → news ≡ olds) → HasReached None before after olds news
+reached_nowhere before after olds news keeps parts stands few rises unmoved = record {
   stands = stands;
   ranked = λ k e. absurd cc;
   moved = record { after = common_same olds news keeps; operands = KeepsKeys-shared olds news keeps; passed = λ k e. absurd (let f = stands.first_is ∙ e in cc) };
   parts = parts;
   few = few;
-  enough = enough_none before after count (common news) stands.first_is;
+  rises = rises;
+  unmoved = unmoved;
 }
 
 -- all operands are at one key
-pub reached_there : (count before made after : ℕ) (key at : DocKey) (olds mids news : List (List DocKey)) (asked : IsAsked key (Some at) mids news) → is_eq (doc_cmp at key) ≡ true → KeepsShared olds mids
-    → ((i : ℕ) → IsPart (get_or olds i []) (get_or mids i [])) → SameOn key olds mids → HasPaid before made key olds mids → 0 < length mids → after ≤ made + length olds → before + count ≤ after → HasReached count (Some at) before after olds news
-reached_there count before made after key at olds mids news asked here keeps parts same paid some few enough = record {
+pub reached_there : (before made after : ℕ) (key at : DocKey) (olds mids news : List (List DocKey)) (asked : IsAsked key (Some at) mids news) → is_eq (doc_cmp at key) ≡ true → KeepsShared olds mids
+    → ((i : ℕ) → IsPart (get_or olds i []) (get_or mids i [])) → SameOn key olds mids → HasPaid before made key olds mids → 0 < length mids → after ≤ made + length olds → before ≤ after → (after ≤ before → news ≡ olds) → HasReached (Some at) before after olds news
+reached_there before made after key at olds mids news asked here keeps parts same paid some few rises unmoved = record {
   stands = stands;
   ranked = λ k e i within. ((asked.reached at refl).each_moved i (omega (arith, asked.count))).ranked;
   moved = record { after = common_same olds news whole; operands = KeepsKeys-shared olds news whole; passed = passed };
   parts = λ i. IsPart_trans (get_or olds i []) (get_or mids i []) (get_or news i []) (parts i) (asked.parts i);
   few = last_paid before made after key (Some at) olds mids news paid keeps.count few asked;
-  enough = enough_all before after count (common news) enough;
+  rises = rises;
+  unmoved = unmoved;
 }
   where
     whole : KeepsShared olds news

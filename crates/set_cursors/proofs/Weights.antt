@@ -1,5 +1,5 @@
 -- How far operands still are from their ends, as a leap goes on.
-use Rattle.std.proofs.Common.{◌≡◌, ℕ, ◌+◌, ◌-◌, ◌*◌, ◌<◌, ◌≤◌, Bool, true, false, not, List, [], ◌∷◌, Option, None, Some, refl, sym, ◌∙◌, ap, subst, arith, length, get_or, slice_get, drop, cond}
+use Rattle.std.proofs.Common.{◌≡◌, ℕ, ◌+◌, ◌-◌, ◌*◌, ◌<◌, ◌≤◌, Bool, true, false, not, List, [], ◌∷◌, Option, Some, refl, sym, ◌∙◌, ap, subst, arith, length, get_or, slice_get, drop, cond}
 use Rattle.std.proofs.Math.Nat.{mul-le-mul_left}
 use Rattle.std.proofs.lemmas.List.Sums.{count_by-le-length, length-filter}
 use Rattle.std.specs.Ordering.{is_eq}
@@ -8,7 +8,7 @@ use Rattle.uni_base.specs.RankOrder.{doc_cmp}
 use Rattle.uni_base.specs.Cursors.{is_before, keys_from}
 use Rattle.uni_base.proofs.RankedLemmas.{is_eq_same, same_from_is_eq, same_from_neither}
 use Rattle.set_cursors.specs.Leaps.{IsAsked, IsMoved}
-use Rattle.set_cursors.specs.Moves.{AreEnough, AreFew}
+use Rattle.set_cursors.specs.Moves.{AreFew}
 use Rattle.set_cursors.proofs.Asked.{not_before_trans}
 
 -- two for each key, less where the first is at the key that is asked about next, and less still where it is before it
@@ -116,12 +116,3 @@ module _ (was made now : ℕ) (key : DocKey) (answer : Option DocKey) (inits mid
           let one : n * (2 * x + 3) ≡ n * (2 * x + 2) + n = grind arith in
           let two : n * (2 * y + (2 * (x - y) + 3)) ≡ n * (2 * y) + n * (2 * (x - y) + 3) = grind arith in
           omega (arith, grows, spans, one, two, p, few)
-
--- no key is left, or each operand was moved
-pub enough_none : (before after operands : ℕ) (left : List DocKey) → None ≡ slice_get left 0 → AreEnough before after operands left
-enough_none before after operands [] e = tt
-enough_none before after operands (key ∷ left) e = absurd cc
-
-pub enough_all : (before after operands : ℕ) (left : List DocKey) → before + operands ≤ after → AreEnough before after operands left
-enough_all before after operands [] most = tt
-enough_all before after operands (key ∷ left) most = most

@@ -6,7 +6,7 @@ use Rattle.uni_base.specs.Cursors.{is_before, IsRanked, keys_from}
 use Rattle.uni_base.specs.KeySets.{has_key, united}
 use Rattle.set_cursors.specs.Filters.{common}
 use Rattle.set_cursors.specs.Firsts.{is_first}
-use Rattle.set_cursors.specs.Moves.{AreEnough, AreFew}
+use Rattle.set_cursors.specs.Moves.{AreFew}
 use Rattle.set_cursors.specs.Passed.{HasMoved}
 
 -- it stands at the first common key, which each operand is at
@@ -50,15 +50,16 @@ pub record IsAsked (asked : DocKey) (answer : Option DocKey) (olds news : List (
   pub ended : answer ≡ None → (k : DocKey) → list_all (λ keys. has_key keys k) olds ≡ false
   pub reached : (at : DocKey) → answer ≡ Some at → IsReached asked at olds news
 
--- so many operands have leapt to the first key that all of them have, with so many moves before and after: no
--- key is new, and they have what they had in common
-pub record HasReached (count : ℕ) (first : Option DocKey) (before after : ℕ) (olds news : List (List DocKey)) : Type 0 where
+-- operands have leapt to the first key that all of them have, with so many moves before and after: no key is
+-- new, and they have what they had in common
+pub record HasReached (first : Option DocKey) (before after : ℕ) (olds news : List (List DocKey)) : Type 0 where
   pub stands : StandsAt first news
   pub ranked : (k : DocKey) → first ≡ Some k → (i : ℕ) → i < length news → IsRanked (slice_index_or news i [])
   pub moved : HasMoved common (common olds) olds news
   pub parts : (i : ℕ) → IsPart (slice_index_or olds i []) (slice_index_or news i [])
   pub few : AreFew before after olds news
-  pub enough : AreEnough before after count (common news)
+  pub rises : before ≤ after
+  pub unmoved : after ≤ before → news ≡ olds
 
 -- the first list has those of its keys left that pass a test, and the others have all of theirs
 abbrev pub first_filtered : (DocKey → Bool) → List (List DocKey) → List (List DocKey)

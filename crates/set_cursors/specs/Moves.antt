@@ -1,5 +1,5 @@
 -- How often the operands of a cursor are moved.
-use Rattle.std.specs.Prelude.{ℕ, ◌+◌, ◌-◌, ◌*◌, ◌≤◌, ◌<◌, List, [], ◌∷◌, length, slice_index_or}
+use Rattle.std.specs.Prelude.{ℕ, ◌+◌, ◌-◌, ◌*◌, ◌≤◌, ◌<◌, List, [], length, slice_index_or}
 use Rattle.uni_base.specs.declared.entity.DocKey.{DocKey}
 
 -- how many moves of so many operands a leap takes at most in which one of them passes so many keys
@@ -11,8 +11,3 @@ most_moves operands passed = operands * (2 * passed + 3)
 abbrev pub AreFew : ℕ → ℕ → List (List DocKey) → List (List DocKey) → Type 0
 AreFew before after olds news = (i : ℕ) → i < length olds
     → after ≤ before + most_moves (length olds) (length (slice_index_or olds i []) - length (slice_index_or news i []))
-
--- and it rose by one at least for each of so many operands, where a key is left
-abbrev pub AreEnough : ℕ → ℕ → ℕ → List DocKey → Type 0
-AreEnough before after operands [] = Unit {0}
-AreEnough before after operands (key ∷ left) = before + operands ≤ after

@@ -1,7 +1,7 @@
-ghost use Rattle.std.specs.Prelude.{◌≡◌, ◌+◌, ◌<◌, List, [], drop, length, map, slice_get, slice_index_or, Some};
+ghost use Rattle.std.specs.Prelude.{◌≡◌, ◌+◌, ◌<◌, ◌≤◌, List, [], drop, length, map, slice_get, slice_index_or, Some};
 ghost use Rattle.std.specs.Bool.{OnTrue};
 ghost use Rattle.set_cursors.specs.Filters.{common};
-ghost use Rattle.set_cursors.specs.Moves.{AreEnough, AreFew};
+ghost use Rattle.set_cursors.specs.Moves.{AreFew};
 ghost use Rattle.set_cursors.specs.Passed.{HasMoved};
 ghost use Rattle.uni_base.specs.Cursors.{IsRanked, keys_from};
 ghost use Rattle.uni_base.specs.KeySets.{has_first, KeepsKeys};
@@ -14,7 +14,8 @@ use std::sync::ledger::{Blank, Ledger};
 use uni_base::{DocCursor, DocKey, Steps};
 
 /// A cursor over the keys that all operands have. Contracts see it as its operands. A step steps the first
-/// operand; else operands are moved by seeks alone, each once for each key that is tried.
+/// operand; else an operand is moved by a seek alone, where it is before a key that
+/// is tried, so at most once for each such key.
 #[derive(Drop)]
 pub struct AndCursor<C: DocCursor> {
     operands: Vec<C>,
@@ -54,7 +55,7 @@ impl<C: DocCursor> AndCursor<C> {
     pub fn new_counted<L: Ledger>(operands: Vec<C>, moves: &mut Steps<L>) -> AndCursor<C>
         ensures moved { let olds = map C.remaining operands.items in HasMoved common (common olds) olds (map C.remaining result) }
         ensures few { AreFew moves.old moves.new (map C.remaining operands.items) (map C.remaining result) }
-        ensures enough { AreEnough moves.old moves.new (length operands.items) (common (map C.remaining result)) }
+        ensures unmoved { moves.new ≤ moves.old → map C.remaining result ≡ map C.remaining operands.items }
     {
         let mut operands = operands;
         let first = leap(&mut operands, moves);
@@ -67,7 +68,7 @@ impl<C: DocCursor> AndCursor<C> {
         ensures moved { let olds = map C.remaining self.old in
             HasMoved common (drop 1 (common olds)) olds (map C.remaining self.new) }
         ensures few { AreFew (moves.old + 1) moves.new (map C.remaining self.old) (map C.remaining self.new) }
-        ensures enough { AreEnough (moves.old + 1) moves.new (length self.old) (common (map C.remaining self.new)) }
+        ensures unmoved { moves.new ≤ moves.old → map C.remaining self.new ≡ map C.remaining self.old }
     {
         if let Some(key) = self.first {
             pass_first(&mut self.operands, &key, moves);
@@ -89,7 +90,7 @@ impl<C: DocCursor> AndCursor<C> {
         ensures moved { let olds = map C.remaining self.old in
             HasMoved common (keys_from from (common olds)) olds (map C.remaining self.new) }
         ensures few { AreFew (moves.old + 1) moves.new (map C.remaining self.old) (map C.remaining self.new) }
-        ensures enough { AreEnough (moves.old + 1) moves.new (length self.old) (common (map C.remaining self.new)) }
+        ensures unmoved { moves.new ≤ moves.old → map C.remaining self.new ≡ map C.remaining self.old }
     {
         seek_first(&mut self.operands, &from, moves);
         self.first = leap(&mut self.operands, moves);

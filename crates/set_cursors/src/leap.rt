@@ -1,4 +1,4 @@
-ghost use Rattle.std.specs.Prelude.{◌≡◌, ◌+◌, ◌<◌, ◌≤◌, ℕ, [], Some, map, not, slice_get, slice_index_or, vec_len};
+ghost use Rattle.std.specs.Prelude.{◌≡◌, ◌+◌, ◌<◌, ◌≤◌, Some, false, map, not, slice_get, slice_index_or, vec_len};
 ghost use Rattle.set_cursors.specs.Leaps.{HasNoCommonBefore, HasReached, IsAsked, StandsAt, first_filtered};
 ghost use Rattle.uni_base.specs.Cursors.{IsRanked, is_before, keys_from};
 ghost use Rattle.uni_base.specs.declared.entity.DocKey.{DocKey as Keys};
@@ -9,7 +9,8 @@ use crate::operands::pass;
 use std::sync::ledger::Ledger;
 use uni_base::{DocCursor, DocKey, Steps};
 
-// Moves an operand on to a key, and gives the key that it is then at.
+// Moves an operand that is before a key on to it, and gives the key that it is then at. One that is not is
+// left as it is.
 fn ask<C: DocCursor, L: Ledger>(
     operand: &mut C,
     key: &DocKey,
@@ -18,11 +19,27 @@ fn ask<C: DocCursor, L: Ledger>(
     ensures moves { C.remaining operand.new ≡ keys_from key.now (C.remaining operand.old) }
     ensures at { result ≡ slice_get (C.remaining operand.new) 0 }
     ensures ranked { IsRanked (C.remaining operand.new) }
-    ensures counted { moves.new ≡ moves.old + 1 }
+    ensures few { moves.new ≤ moves.old + 1 }
+    ensures rises { moves.old ≤ moves.new }
+    ensures unmoved { moves.new ≤ moves.old → C.remaining operand.new ≡ C.remaining operand.old }
 {
+    if !is_behind(operand, key) {
+        return operand.peek();
+    }
     moves.tick();
     operand.seek(*key);
     operand.peek()
+}
+
+// Whether an operand is at a key before one.
+fn is_behind<C: DocCursor>(operand: &C, key: &DocKey) -> bool
+    ensures ranked { IsRanked (C.remaining operand.now) }
+    ensures not { result ≡ false → C.remaining operand.now ≡ keys_from key.now (C.remaining operand.now) }
+{
+    match operand.peek() {
+        Some(at) => at.cmp(key).is_lt(),
+        None => false,
+    }
 }
 
 // Passes a key in the first operand, where all operands are at it.
@@ -68,8 +85,8 @@ fn ask_all<C: DocCursor, L: Ledger>(
     ensures asked { let olds = map C.remaining operands.old.items in let news = map C.remaining operands.new.items in
         IsAsked key.now result olds news }
     ensures few { moves.new ≤ moves.old + vec_len operands.old }
-    ensures enough { (k : Keys) → result ≡ Some k → moves.old + vec_len operands.old ≤ moves.new }
-    ensures counted { moves.old ≤ moves.new }
+    ensures rises { moves.old ≤ moves.new }
+    ensures unmoved { moves.new ≤ moves.old → map C.remaining operands.new.items ≡ map C.remaining operands.old.items }
 {
     let mut latest = *key;
     for i in 0..operands.len() {
@@ -78,14 +95,14 @@ fn ask_all<C: DocCursor, L: Ledger>(
     Some(latest)
 }
 
-// Moves the operands to the first key that all of them have. An operand is moved by a seek alone, and each
-// once for each key that is tried.
+// Moves the operands to the first key that all of them have. An operand is moved by a seek alone, where it is
+// before a key that is tried, so at most once for each such key.
 pub(crate) fn leap<C: DocCursor, L: Ledger>(
     operands: &mut Vec<C>,
     moves: &mut Steps<L>,
 ) -> Option<DocKey>
     ensures { let olds = map C.remaining operands.old.items in let news = map C.remaining operands.new.items in
-        HasReached (vec_len operands.old) result moves.old moves.new olds news }
+        HasReached result moves.old moves.new olds news }
 {
     let mut key = operands.first()?.peek()?;
     loop {

@@ -18,7 +18,8 @@ invariant-loop-at g l =
       is_among : has_key (united nows) l.key ≡ true;
       parts : (i : ℕ) → IsPart (get_or olds i []) (get_or nows i []);
       same : SameOn l.key olds nows;
-      counted : l.initial.moves ≤ l.moves;
+      rises : l.initial.moves ≤ l.moves;
+      unmoved : l.moves ≤ l.initial.moves → nows ≡ olds;
       paid : HasPaid l.initial.moves l.moves l.key olds nows;
     }
 
