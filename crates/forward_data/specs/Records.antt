@@ -1,16 +1,12 @@
 -- Forward records, and what a stack of layers stands for.
-use Rattle.std.specs.Prelude.{ℕ, List, [], ◌∷◌, Option}
+use Rattle.std.specs.Prelude.{◌≡◌, ℕ, List, [], ◌∷◌, map, Option, None, Some}
 use Rattle.std.specs.declared.cmp.Ordering.{Ordering}
 use Rattle.std.specs.Ordering.{nat_cmp, ordering_then}
 use Rattle.std.specs.Option.{unwrap_or}
-use Rattle.std.specs.BTreeMap.{is_at}
-use Rattle.std.specs.Map.{lookup}
+use Rattle.std.specs.FinMap as finite
+use Rattle.layer_base.specs.Changes.{after}
 use Rattle.forward_data.specs.declared.record.ForwardItem.{ForwardItem}
 use Rattle.forward_data.specs.declared.record.RecordKey.{RecordKey}
-
--- the records that a layer replaces, in the order of their keys
-abbrev pub Records : Type 0
-Records = List (RecordKey × List ForwardItem)
 
 abbrev pub record_key : ℕ → ℕ → RecordKey
 record_key type_no id = record { type_no = type_no; id = id }
@@ -19,18 +15,35 @@ record_key type_no id = record { type_no = type_no; id = id }
 abbrev pub record_cmp : RecordKey → RecordKey → Ordering
 record_cmp a b = ordering_then (nat_cmp a.type_no b.type_no) (nat_cmp a.id b.id)
 
--- what a layer says of a record, if it does
-abbrev pub find_record : RecordKey → Records → Option (List ForwardItem)
-find_record key = lookup (is_at (record_cmp key))
+-- a record at each of some keys
+abbrev pub Records : Type 0
+Records = finite.FinMap record_cmp (List ForwardItem)
 
--- a record under a layer: replaced whole where the layer has it
-abbrev pub record_over : RecordKey → List ForwardItem → Records → List ForwardItem
-record_over key older layer = unwrap_or (find_record key layer) older
+-- the record that a list leaves: none where it is empty
+abbrev pub left_by : List ForwardItem → Option (List ForwardItem)
+left_by [] = None
+left_by (item ∷ items) = Some (item ∷ items)
 
-abbrev pub record_from : RecordKey → List ForwardItem → List Records → List ForwardItem
-record_from key older [] = older
-record_from key older (layer ∷ layers) = record_from key (record_over key older layer) layers
+-- a record of a layer as a change
+abbrev pub replacing : RecordKey × List ForwardItem → RecordKey × Option (List ForwardItem)
+replacing row = (row.0, left_by row.1)
 
--- the record that a stack stands for: from the oldest layer to the newest, an empty list being none
+-- records under a layer, each of whose records stands in place of the older one
+abbrev pub records_over : Records → Records → Records
+records_over records layer = after records (map replacing (finite.entries layer))
+
+abbrev pub records_from : Records → List Records → Records
+records_from records [] = records
+records_from records (layer ∷ layers) = records_from (records_over records layer) layers
+
+-- the records that a stack stands for, from the oldest layer to the newest; none of them is empty
+abbrev pub records_of : List Records → Records
+records_of = records_from finite.empty
+
+-- the record at a key, empty where there is none
 abbrev pub record_of : RecordKey → List Records → List ForwardItem
-record_of key = record_from key []
+record_of key layers = unwrap_or (finite.get (records_of layers) key) []
+
+-- none of the records is empty
+abbrev pub AreFull : Records → Type 0
+AreFull records = (key : RecordKey) → finite.get records key ≡ Some [] → ⊥

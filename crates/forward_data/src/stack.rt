@@ -1,8 +1,9 @@
 ghost use Rattle.std.specs.Prelude.{◌≡◌, ◌+◌, ◌≤◌, ◌<◌, ◌++◌, ◌∷◌, [], length, Some, IfOk};
 ghost use Rattle.std.specs.List.{slice_get};
+ghost use Rattle.std.specs.Option.{option_map, unwrap_or};
 ghost use Rattle.forward_data.specs.Records.{record_key, record_of};
 
-use crate::{ForwardItem, ForwardLayer, RecordKey};
+use crate::{ForwardItem, ForwardItems, ForwardLayer, RecordKey};
 use layer_base::SharedLayers;
 use std::alloc::{AllocError, Global};
 use std::marker::Model;
@@ -18,9 +19,13 @@ pub struct ForwardStack {
 
 impl Model for ForwardStack {
     ghost use Rattle.std.specs.Prelude.{List, ℕ};
+    ghost use Rattle.std.specs.Coded.{codes};
+    ghost use Rattle.std.specs.FinMap as finite;
     ghost use Rattle.forward_data.specs.Records.{Records};
 
     ghost Value = { List Records × ℕ };
+
+    ghost coded = { Prim.hlevel (codes, finite.code) };
 
     ghost view = { λ s. s.layers };
 }
@@ -74,10 +79,18 @@ impl ForwardStack {
         let key = RecordKey { type_no, id };
         let mut newest: &[ForwardItem] = &[];
         for i in 0..self.layers() {
-            if let Some(items) = self.layer(i).record(&key) {
-                newest = items.as_slice();
-            }
+            newest = newer(newest, self.layer(i).record(&key));
         }
         newest
+    }
+}
+
+// What a layer says of a record, or else the older record.
+fn newer<'a>(older: &'a [ForwardItem], said: Option<&'a ForwardItems>) -> &'a [ForwardItem]
+    ensures { result.now ≡ unwrap_or (option_map (λ r. r.now) said.entry) older.now }
+{
+    match said {
+        Some(items) => items.as_slice(),
+        None => older,
     }
 }

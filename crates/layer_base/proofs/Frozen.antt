@@ -1,13 +1,12 @@
 -- Layers in blocks of 64, by their places.
-use Rattle.std.proofs.Common.{◌≡◌, ℕ, zero, suc, ◌+◌, ◌-◌, ◌*◌, ◌^◌, ◌<◌, ◌≤◌, List, [], ◌∷◌, ◌++◌, map, take, drop, length, get_or, slice_get, Option, Some, None, refl, sym, ◌∙◌, ap, subst, arith, All, append_assoc, append-nil}
-use Rattle.std.proofs.lemmas.List.{length-append, length-map, take-map, length-take-le, take-append-drop, drop-take, take-append-le}
-use Rattle.std.proofs.lemmas.List.Elements.{All-head, All-tail, All-push}
+use Rattle.std.proofs.Common.{◌≡◌, ℕ, zero, suc, ◌+◌, ◌-◌, ◌*◌, ◌<◌, ◌≤◌, List, [], ◌∷◌, ◌++◌, map, take, drop, length, slice_get, Some, refl, sym, ◌∙◌, ap, subst, arith, All, append_assoc, append-nil}
+use Rattle.std.proofs.lemmas.List.{length-append, length-map, length-take-le, take-append-drop, drop-take, take-append-le}
+use Rattle.std.proofs.lemmas.List.Elements.{All-head, All-tail}
 use Rattle.std.proofs.lemmas.Grind.{flat_map-append}
-use Rattle.std.specs.List.{flat_map}
 use Rattle.std.specs.declared.sync.Arc.{Arc}
 use Rattle.std.specs.declared.vec.Vec.{Vec}
 use Rattle.std.specs.Global.{Global}
-use Rattle.layer_base.specs.Shared.{values, layers_in, AreWhole}
+use Rattle.layer_base.specs.Shared.{values, layers_in}
 
 pub slice_get-map : {X Y : Type 0} (f : X → Y) (xs : List X) (i : ℕ) (x : X) → slice_get xs i ≡ Some x → slice_get (map f xs) i ≡ Some (f x)
 slice_get-map f [] i x e = cc

@@ -1,5 +1,5 @@
 -- A log that is turned round, sorted by its keys, and of which the first of each run is kept.
-use Rattle.std.proofs.Common.{◌≡◌, ℕ, zero, suc, ◌+◌, ◌<◌, ◌≤◌, Bool, true, false, cond, not, ◌&&◌, List, [], ◌∷◌, ◌++◌, length, get_or, reverse, Option, None, Some, refl, sym, ◌∙◌, ap, subst, arith, filter, slice_get}
+use Rattle.std.proofs.Common.{◌≡◌, ℕ, suc, ◌+◌, Bool, true, false, cond, not, ◌&&◌, List, [], ◌∷◌, length, get_or, reverse, Option, None, Some, refl, sym, ◌∙◌, ap, subst, arith, filter}
 use Rattle.std.specs.Prelude.{T}
 use Rattle.std.specs.Cmp.{IsTotalOrder}
 use Rattle.std.specs.declared.cmp.Ordering.{Ordering}
@@ -7,22 +7,10 @@ use Rattle.std.specs.declared.cmp.Ordering.TheVariants.{Less, Equal, Greater}
 use Rattle.std.specs.Ordering.{is_lt, is_eq, eq_by_cmp, ordering_reverse}
 use Rattle.std.specs.List.{dedup, dedup_from}
 use Rattle.std.specs.List.Sorted.{IsSortedByKey, ties}
-use Rattle.std.specs.Option.{option_map}
 use Rattle.std.specs.FinMap as map
 use Rattle.std.specs.FinMap.Entries.{find, is_sorted, below_all, same_entries}
 use Rattle.layer_base.specs.Layers.{from_log, TellsApart}
-
-both : (a b : Bool) → T a → T b → T (a && b)
-both true b p q = q
-both false b p q = absurd p
-
-lt_true : (o : Ordering) → o ≡ Less → T (is_lt o)
-lt_true o e = subst (λ (r : Ordering). T (is_lt r)) (sym e) tt
-
-equal_from : (o : Ordering) → is_eq o ≡ true → o ≡ Equal
-equal_from Less e = cc
-equal_from Equal e = refl
-equal_from Greater e = cc
+use Rattle.layer_base.proofs.Sorted.{both, equal_from, lt_from}
 
 module _ {K : Type 0} (R : K → K → Ordering) (o : IsTotalOrder R) where
   -- a key that is neither less than another nor at its place comes after it
@@ -61,11 +49,11 @@ module _ {K X : Type 0} (R : K → K → Ordering) (o : IsTotalOrder R) (apart :
   )
 
   below_dedup : (z : K) (k : K × X) (xs : List (K × X)) → R z k.0 ≡ Less → NotDown k xs → T (below_all R z (dedup_from same k xs))
-  below_dedup z k [] less down = both _ _ (lt_true _ less) tt
+  below_dedup z k [] less down = both _ _ (lt_from _ less) tt
   below_dedup z k (x ∷ xs) less down =
       elim (same x k) as (λ b. same x k ≡ b → T (below_all R z (cond b (dedup_from same k xs) (k ∷ dedup_from same x xs)))) [
         | true ↦ λ e. below_dedup z k xs less (NotDown-same k x xs e down.1)
-        | false ↦ λ e. both _ _ (lt_true _ less) (below_dedup z x xs (o.trans z k.0 x.0 less (after R o x.0 k.0 down.0 e)) down.1)
+        | false ↦ λ e. both _ _ (lt_from _ less) (below_dedup z x xs (o.trans z k.0 x.0 less (after R o x.0 k.0 down.0 e)) down.1)
       ] refl
 
   sorted_dedup : (k : K × X) (xs : List (K × X)) → NotDown k xs → T (is_sorted R (dedup_from same k xs))

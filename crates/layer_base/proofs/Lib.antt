@@ -1,3 +1,5 @@
+pub mod Changes
 pub mod Frozen
 pub mod LastWords
+pub mod Sorted
 pub mod Tables

@@ -1,15 +1,13 @@
 -- Tables under layers, by their look-ups.
-use Rattle.std.proofs.Common.{◌≡◌, Bool, true, false, cond, not, List, [], ◌∷◌, ◌++◌, reverse, Option, None, Some, refl, sym, ◌∙◌, ap, subst, is_some}
+use Rattle.std.proofs.Common.{◌≡◌, Bool, true, false, cond, not, List, [], ◌∷◌, ◌++◌, reverse, None, Some, refl, sym, ◌∙◌, ap}
 use Rattle.std.proofs.lemmas.List.{reverse-append}
 use Rattle.std.specs.Cmp.{IsTotalOrder}
 use Rattle.std.specs.declared.cmp.Ordering.{Ordering}
-use Rattle.std.specs.declared.cmp.Ordering.TheVariants.{Less, Equal, Greater}
-use Rattle.std.specs.Ordering.{is_eq, eq_by_cmp}
+use Rattle.std.specs.Ordering.{eq_by_cmp}
 use Rattle.std.specs.FinMap as map
-use Rattle.std.specs.FinMap.Entries.{find, is_sorted, same_entries}
-use Rattle.std.specs.Prelude.{T}
+use Rattle.std.specs.FinMap.Entries.{find}
 use Rattle.layer_base.specs.Lookups.{either}
-use Rattle.layer_base.specs.Layers.{TellsApart, Changes, from_log, put_all, layer_over, stack_over, stack_table}
+use Rattle.layer_base.specs.Layers.{TellsApart, Changes, from_log, put_all, layer_over, stack_over}
 
 module _ {K X : Type 0} {R : K → K → Ordering} (o : IsTotalOrder R) where
   pub get-put_all : (es : List (K × X)) (table : map.FinMap R X) (q : K) → map.get (put_all es table) q ≡ either (find R q es) (map.get table q)
@@ -48,3 +46,7 @@ reverse-push xs x = reverse-append xs (x ∷ [])
 -- one more word of a log
 pub from_log-push : {K X : Type 0} {R : K → K → Ordering} (log : List (K × X)) (k : K) (v : X) → from_log {R = R} (log ++ (k, v) ∷ []) ≡ map.insert (from_log log) k v
 from_log-push {R = R} log k v = ap (map.from_entries {R = R}) (reverse-push log (k, v))
+
+-- a map of its own entries
+pub from_sorted-entries : {K X : Type 0} {R : K → K → Ordering} (m : map.FinMap R X) → map.from_sorted (map.entries m) ≡ m
+from_sorted-entries {R = R} m = map.same_entries_map (map.from_sorted (map.entries m)) m (map.entries-from_sorted R (map.entries m) (map.entries_sorted m))

@@ -1,6 +1,6 @@
 -- Tables that are stacks of layers, over any order of keys. A table has at most one value at each
 -- key; a layer deletes keys and puts values.
-use Rattle.std.specs.Prelude.{◌≡◌, Bool, not, List, [], ◌∷◌, reverse}
+use Rattle.std.specs.Prelude.{◌≡◌, not, List, [], ◌∷◌, reverse}
 use Rattle.std.specs.declared.cmp.Ordering.{Ordering}
 use Rattle.std.specs.declared.cmp.Ordering.TheVariants.{Equal}
 use Rattle.std.specs.FinMap as map

@@ -1,3 +1,4 @@
 pub mod Layers
+pub mod Changes
 pub mod Shared
 pub mod Lookups

@@ -1,8 +1,10 @@
-ghost use Rattle.std.specs.Prelude.{◌≡◌, ◌≤◌, length, IfOk};
+ghost use Rattle.std.specs.Prelude.{◌≡◌, ◌≤◌, T, length, IfOk};
+ghost use Rattle.std.specs.Option.{option_map};
 ghost use Rattle.std.specs.FinMap as map;
 ghost use Rattle.layer_base.specs.Layers.{from_log, TellsApart};
+ghost use Rattle.layer_base.specs.Changes.{after};
 
-use std::alloc::AllocError;
+use std::alloc::{AllocError, Global};
 
 /// The last word of a log on each key, in the order of the keys.
 pub fn last_words<K: Ord + Copy, V: Drop>(mut log: Vec<(K, V)>) -> Result<Vec<(K, V)>, AllocError>
@@ -14,4 +16,35 @@ pub fn last_words<K: Ord + Copy, V: Drop>(mut log: Vec<(K, V)>) -> Result<Vec<(K
     log.sort_by_key(|entry| entry.0)?;
     log.dedup_by_key(|entry| entry.0);
     Ok(log)
+}
+
+/// What a log of changes leaves, where a change puts a value at a key or deletes the key: the last
+/// value at each key that is not deleted after it, in the order of the keys.
+pub fn rows_left<K: Ord + Copy, V: Drop>(
+    alloc: Global,
+    log: Vec<(K, Option<V>)>,
+) -> Result<Vec<(K, V)>, AllocError>
+    requires { TellsApart K.cmp }
+    ensures { IfOk result (λ rows. rows.items ≡ map.entries (after {R = K.cmp} map.empty log.items)) }
+{
+    let words = last_words(log)?;
+    let mut rows = Vec::new(alloc);
+    for (key, word) in words {
+        if let Some(value) = word {
+            rows.push((key, value))?;
+        }
+    }
+    Ok(rows)
+}
+
+/// The value at a key, among rows in the order of their keys, which it finds by halving.
+pub fn look_up<'a, K: Ord, V>(rows: &'a [(K, V)], key: &K) -> Option<&'a V>
+    requires apart { TellsApart K.cmp }
+    requires sorted { T (map.is_sorted K.cmp rows.now) }
+    ensures { option_map (λ v. v.now) result ≡ map.find K.cmp key.now rows.now }
+{
+    match rows.binary_search_by(|row| row.0.cmp(key)) {
+        Ok(i) => Some(&rows[i].1),
+        Err(_) => None,
+    }
 }

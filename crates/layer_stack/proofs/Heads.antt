@@ -1,17 +1,17 @@
 -- A key among the postings of one layer, none of which stands before it.
-use Rattle.std.proofs.Common.{◌≡◌, ℕ, Bool, true, false, cond, not, List, [], ◌∷◌, map, filter, drop, length, Option, None, Some, refl, sym, ◌∙◌, ap, subst, All}
+use Rattle.std.proofs.Common.{◌≡◌, true, false, cond, List, [], ◌∷◌, map, filter, drop, None, Some, refl, sym, ◌∙◌, ap, subst, All}
 use Rattle.std.specs.Option.{option_map, unwrap_or}
 use Rattle.std.specs.List.{slice_get}
-use Rattle.std.specs.Ordering.{is_eq, eq_by_cmp}
+use Rattle.std.specs.Ordering.{is_eq}
 use Rattle.std.specs.FinMap.Entries.{find}
 use Rattle.std.proofs.lemmas.List.Elements.{All-head, All-tail}
 use Rattle.uni_base.specs.declared.entity.DocKey.{DocKey}
 use Rattle.uni_base.specs.Cursors.{is_before, IsRanked}
 use Rattle.uni_base.specs.RankOrder.{doc_cmp}
-use Rattle.uni_base.proofs.RankedLemmas.{Standing, before, same, after, standing, is_before_self, is_eq_same, is_eq_swap, IsBeforeAll, IsBeforeAll-ranked, IsBeforeAll-cons}
+use Rattle.uni_base.proofs.RankedLemmas.{Standing, before, same, after, standing, is_before_self, is_eq_same, is_eq_swap, IsBeforeAll, IsBeforeAll-ranked}
 use Rattle.posting_lists.specs.declared.posting.Posting.{Posting}
 use Rattle.posting_lists.specs.Postings.{keys_of}
-use Rattle.layer_stack.specs.Stacks.{StandsFrom, stands_at, entry_of}
+use Rattle.layer_stack.specs.Stacks.{stands_at, entry_of}
 
 -- a key that comes before all postings is at none
 pub find_absent : (k : DocKey) (ps : List Posting) → IsBeforeAll k (keys_of ps) → find doc_cmp k (map entry_of ps) ≡ None

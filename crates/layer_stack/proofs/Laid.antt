@@ -3,7 +3,7 @@ use Rattle.std.proofs.Common.{◌≡◌, ℕ, ◌-◌, ◌^◌, ◌≤◌, List,
 use Rattle.std.specs.Prelude.{T}
 use Rattle.std.specs.FinMap as finite
 use Rattle.std.specs.FinMap.{is_sorted}
-use Rattle.std.proofs.lemmas.List.{take-map, drop-map, length-map}
+use Rattle.std.proofs.lemmas.List.{take-map, drop-map}
 use Rattle.uni_base.specs.declared.edge.Audience.{Audience}
 use Rattle.uni_base.specs.declared.entity.DocKey.{DocKey}
 use Rattle.posting_lists.specs.declared.posting.Posting.{Posting}
@@ -14,7 +14,7 @@ use Rattle.layer_stack.specs.Places.{place_cmp}
 use Rattle.layer_stack.specs.Postings.{posting_of, key_of}
 use Rattle.layer_stack.specs.Spans.{spanned, tagged, retagged, IsSpans, put_rows, delete_rows, AreLaid}
 
-map-after : {X Y Z : Type 0} (g : Y → Z) (f : X → Y) (xs : List X) → map g (map f xs) ≡ map (λ x. g (f x)) xs
+pub map-after : {X Y Z : Type 0} (g : Y → Z) (f : X → Y) (xs : List X) → map g (map f xs) ≡ map (λ x. g (f x)) xs
 map-after g f [] = refl
 map-after g f (x ∷ xs) = ap (λ ys. g (f x) ∷ ys) (map-after g f xs)
 
@@ -39,8 +39,9 @@ are_laid rows told spans n e long sorted spread few = record {
   few = subst (λ (m : ℕ). m ≤ 2 ^ 61) (sym long) few;
 }
 
-pub from_sorted-entries : {V : Type 0} (m : finite.FinMap place_cmp V) → finite.from_sorted (finite.entries m) ≡ m
-from_sorted-entries m = finite.same_entries_map (finite.from_sorted (finite.entries m)) m (finite.entries-from_sorted place_cmp (finite.entries m) (finite.entries_sorted m))
-
 pub len-from_sorted : {V : Type 0} (rows : List (Place × V)) → T (is_sorted place_cmp rows) → finite.len (finite.from_sorted {R = place_cmp} rows) ≡ length rows
 len-from_sorted rows sorted = finite.len-entries (finite.from_sorted {R = place_cmp} rows) ∙ ap length (finite.entries-from_sorted place_cmp rows sorted)
+
+-- a map of no rows
+pub none_sorted : {V : Type 0} → finite.from_sorted {X = V} {R = place_cmp} [] ≡ finite.empty
+none_sorted {V} = finite.empty_of_len (finite.from_sorted {X = V} {R = place_cmp} []) (len-from_sorted [] tt)

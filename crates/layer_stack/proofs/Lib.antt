@@ -1,8 +1,10 @@
-pub mod Order
-pub mod Sorted
-pub mod Spanned
-pub mod Laid
-pub mod Under
 pub mod Heads
+pub mod Held
+pub mod Laid
+pub mod LoggedRows
 pub mod Merged
+pub mod Order
+pub mod Spanned
+pub mod TermWords
 pub mod Terms
+pub mod Under

@@ -1,13 +1,13 @@
 -- What parts stand for together, by look-ups.
-use Rattle.std.proofs.Common.{◌≡◌, ℕ, ◌+◌, ◌<◌, ◌≤◌, Bool, true, false, cond, not, ◌||◌, List, [], ◌∷◌, ◌++◌, map, filter, drop, length, Option, None, Some, refl, sym, ◌∙◌, ap, subst, arith, All, is_some, ◌⊎◌, inl, inr}
+use Rattle.std.proofs.Common.{◌≡◌, ℕ, ◌+◌, ◌<◌, ◌≤◌, Bool, true, false, cond, ◌||◌, List, [], ◌∷◌, map, filter, length, Option, None, Some, refl, sym, ◌∙◌, ap, subst, arith, All, is_some, ◌⊎◌, inl, inr}
 use Rattle.std.specs.Prelude.{T}
 use Rattle.std.specs.Option.{unwrap_or}
 use Rattle.std.specs.List.{slice_get}
 use Rattle.std.specs.FinMap as finite
-use Rattle.std.specs.FinMap.Entries.{find, is_sorted, below_all, where_key, is_sorted-where_key, find-where_key, same_entries}
+use Rattle.std.specs.FinMap.Entries.{find, is_sorted, below_all, is_sorted-where_key, find-where_key, same_entries}
 use Rattle.std.specs.declared.cmp.Ordering.{Ordering}
 use Rattle.std.specs.declared.cmp.Ordering.TheVariants.{Less, Equal, Greater}
-use Rattle.std.specs.Ordering.{is_lt, is_eq, eq_by_cmp}
+use Rattle.std.specs.Ordering.{is_eq, eq_by_cmp}
 use Rattle.std.proofs.lemmas.List.Elements.{All-nil, All-cons, All-head, All-tail, All-weaker}
 use Rattle.uni_base.specs.declared.entity.DocKey.{DocKey}
 use Rattle.uni_base.specs.declared.edge.Audience.{Audience}
@@ -18,12 +18,12 @@ use Rattle.uni_base.proofs.RankedLemmas.{doc_total, exact_key, Standing, before,
 use Rattle.posting_lists.specs.declared.posting.Posting.{Posting}
 use Rattle.posting_lists.specs.Postings.{keys_of}
 use Rattle.layer_base.specs.Lookups.{either}
-use Rattle.layer_base.specs.Layers.{Changes, layer_over, stack_over, stack_table}
+use Rattle.layer_base.specs.Layers.{layer_over, stack_over}
 use Rattle.layer_base.proofs.Tables.{get-layer_over}
-use Rattle.layer_stack.specs.Stacks.{PartValue, entry_of, posting_at, deleted_at, part_changes, part_table, remaining_of, part_where, StandsFrom, stands_at, head_of, lesser, least_from}
-use Rattle.layer_stack.proofs.Heads.{find_absent, pass_first}
+use Rattle.layer_stack.specs.Stacks.{PartValue, entry_of, posting_at, deleted_at, part_changes, part_table, remaining_of, part_where, StandsFrom, head_of, lesser, least_from}
+use Rattle.layer_stack.proofs.Heads.{find_absent}
 use Rattle.layer_stack.proofs.Under.{sorted_ranked}
-use Rattle.layer_stack.proofs.Sorted.{both, first, second, less_from, lt_from}
+use Rattle.layer_base.proofs.Sorted.{both, first, second, less_from, lt_from, find_below}
 
 abbrev DocTable : Type 0
 DocTable = finite.FinMap doc_cmp Audience
@@ -157,10 +157,6 @@ below_less : (a b : DocKey) (es : List (DocKey × Audience)) → doc_cmp a b ≡
 below_less a b [] less below = tt
 below_less a b (e ∷ es) less below = both _ _ (lt_from _ (doc_total.trans a b e.0 less (less_from _ (first _ _ below)))) (below_less a b es less (second _ _ below))
 
-find_all_below : (q : DocKey) (es : List (DocKey × Audience)) → T (below_all doc_cmp q es) → find doc_cmp q es ≡ None
-find_all_below q [] below = refl
-find_all_below q (e ∷ es) below = ap (λ r. cond (is_eq r) (Some e.1) (find doc_cmp q es)) (less_from _ (first _ _ below)) ∙ find_all_below q es (second _ _ below)
-
 never : (a : Audience) → Some a ≡ None → ⊥
 never a e = subst T (ap is_some e) tt
 
@@ -181,7 +177,7 @@ first_entry key a (e ∷ es) sorted found none = by (standing e.0 key)
     by (same k) = let value : e.1 ≡ a = some_is e.1 a (sym itself ∙ ap (λ x. find doc_cmp x (e ∷ es)) k ∙ found) in λ i. Some (k i, value i)
     by (after b _ _ _) =
         let less : doc_cmp key e.0 ≡ Less = before_less key e.0 b in
-        let gone : find doc_cmp key (e ∷ es) ≡ None = ap (λ r. cond (is_eq r) (Some e.1) (find doc_cmp key es)) less ∙ find_all_below key es (below_less key e.0 es less (first _ _ sorted)) in
+        let gone : find doc_cmp key (e ∷ es) ≡ None = ap (λ r. cond (is_eq r) (Some e.1) (find doc_cmp key es)) less ∙ find_below doc_cmp key es (below_less key e.0 es less (first _ _ sorted)) in
         absurd (never a (sym found ∙ gone))
 
 -- what is found at a key from which all parts stand is their first posting

@@ -1,25 +1,16 @@
 -- The order of terms and places is total, and tells all of them apart.
-use Rattle.std.proofs.Common.{◌≡◌, refl, sym, ap, ◌∙◌, rules}
 use Rattle.std.specs.Cmp.{IsTotalOrder, then_total, on_total, nat_cmp_total}
-use Rattle.std.specs.Cmp.Rules.{comparing}
-use Rattle.std.specs.declared.cmp.Ordering.{Ordering}
-use Rattle.std.specs.declared.cmp.Ordering.TheVariants.{Less, Equal, Greater}
-use Rattle.std.specs.Ordering.{nat_cmp, ordering_then}
+use Rattle.std.specs.Ordering.{nat_cmp}
 use Rattle.std.proofs.lemmas.Map.Lookups.{exact_unsigned}
-use Rattle.uni_base.specs.declared.edge.Key.{Key}
 use Rattle.uni_base.specs.EdgeOrder.{key_cmp, key_cmp-total}
 use Rattle.uni_base.specs.RankOrder.{doc_cmp}
 use Rattle.uni_base.proofs.RankedLemmas.{doc_total, exact_key}
 use Rattle.posting_lists.proofs.Keys.{same_key}
 use Rattle.layer_base.specs.Layers.{TellsApart}
+use Rattle.layer_base.proofs.Sorted.{both_equal}
 use Rattle.layer_stack.specs.declared.place.TermKey.{TermKey}
 use Rattle.layer_stack.specs.declared.place.Place.{Place}
 use Rattle.layer_stack.specs.Places.{term_cmp, place_cmp}
-
-both_equal : (a b : Ordering) → ordering_then a b ≡ Equal → (a ≡ Equal) × (b ≡ Equal)
-both_equal Less b e = cc
-both_equal Equal b e = (refl, e)
-both_equal Greater b e = cc
 
 pub term_total : IsTotalOrder term_cmp
 term_total = then_total (on_total (λ (t : TermKey). t.type_no) nat_cmp_total) (on_total (λ (t : TermKey). t.key) key_cmp-total)

@@ -1,17 +1,15 @@
 -- Rows that are told by the spans of their terms.
-use Rattle.std.proofs.Common.{◌≡◌, ℕ, zero, suc, ◌+◌, ◌-◌, ◌<◌, ◌≤◌, Bool, true, false, cond, List, [], ◌∷◌, ◌++◌, map, take, drop, filter, length, get_or, Option, None, Some, refl, sym, ◌∙◌, ap, subst, arith, All, append-nil, ◌⊎◌, inl, inr}
+use Rattle.std.proofs.Common.{◌≡◌, ℕ, ◌+◌, ◌-◌, ◌<◌, ◌≤◌, Bool, true, false, if◌then◌else◌, List, [], ◌∷◌, ◌++◌, map, take, length, get_or, Option, None, Some, refl, sym, ◌∙◌, ap, subst, arith, All, append-nil, ◌⊎◌, inl, inr}
 use Rattle.std.specs.Prelude.{T}
-use Rattle.std.specs.List.{flat_map}
-use Rattle.std.specs.BTreeMap.{insert_entry}
+use Rattle.indexmap.specs.IndexMap.{insert_entry}
 use Rattle.std.specs.declared.cmp.Ordering.{Ordering}
 use Rattle.std.specs.declared.cmp.Ordering.TheVariants.{Less, Equal, Greater}
-use Rattle.std.specs.Ordering.{is_lt, is_eq, eq_by_cmp, ordering_then, ordering_reverse, match_ordering}
-use Rattle.std.specs.FinMap.Entries.{find, is_sorted, below_all}
+use Rattle.std.specs.Ordering.{is_eq, eq_by_cmp, ordering_reverse}
+use Rattle.std.specs.FinMap.Entries.{is_sorted}
 use Rattle.std.proofs.lemmas.Grind.{flat_map-append}
 use Rattle.std.proofs.lemmas.Bool.{cases_lt}
-use Rattle.std.proofs.lemmas.List.{get_or_read, get_or-take, get_or-drop, length-take, length-drop, map-append}
+use Rattle.std.proofs.lemmas.List.{get_or_read}
 use Rattle.std.proofs.lemmas.List.Elements.{All-head, All-tail, All-push, All-weaker}
-use Rattle.uni_base.specs.RankOrder.{doc_cmp}
 use Rattle.posting_lists.specs.Postings.{section}
 use Rattle.posting_lists.proofs.Sections.{get_or-section, length-section}
 use Rattle.layer_base.proofs.Frozen.{take-add}
@@ -20,31 +18,21 @@ use Rattle.layer_stack.specs.declared.place.Place.{Place}
 use Rattle.layer_stack.specs.declared.place.TermKey.{TermKey}
 use Rattle.layer_stack.specs.Places.{term_cmp, place_cmp}
 use Rattle.layer_stack.specs.Postings.{place_of}
-use Rattle.layer_stack.specs.Spans.{spanned, tagged, retagged, IsSpans, span_of}
+use Rattle.layer_stack.specs.Spans.{spanned, retagged, IsSpans}
 use Rattle.layer_stack.proofs.Order.{term_total, term_apart}
-use Rattle.layer_stack.proofs.Sorted.{sorted_at, sorted_push}
+use Rattle.layer_base.proofs.Sorted.{sorted_at, sorted_push, equal_from, then_less}
 
 pub map_same : {X : Type 0} (f : X → X) (xs : List X) → All (λ x. f x ≡ x) xs → map f xs ≡ xs
 map_same f [] all = refl
 map_same {X} f (x ∷ xs) all = λ i. All-head (λ (y : X). f y ≡ y) x xs all i ∷ map_same f xs (All-tail (λ (y : X). f y ≡ y) x xs all) i
 
 -- an entry above all others goes to the end
-pub insert_last : (spans : List (TermKey × Span)) (t : TermKey) (s : Span) → All (λ e. term_cmp e.0 t ≡ Less) spans → insert_entry term_cmp spans t s ≡ spans ++ (t, s) ∷ []
+pub insert_last : (spans : List (TermKey × Span)) (t : TermKey) (s : Span) → All (λ e. term_cmp e.0 t ≡ Less) spans → insert_entry (eq_by_cmp term_cmp) spans t s ≡ spans ++ (t, s) ∷ []
 insert_last [] t s all = refl
 insert_last (e ∷ spans) t s all =
     let above : term_cmp t e.0 ≡ Greater = term_total.antisymm t e.0 ∙ ap ordering_reverse (All-head (λ (x : TermKey × Span). term_cmp x.0 t ≡ Less) e spans all) in
-    ap (λ r. match_ordering r ((t, s) ∷ e ∷ spans) ((e.0, s) ∷ spans) (e ∷ insert_entry term_cmp spans t s)) above
+    ap (λ r. if is_eq r then (e.0, s) ∷ spans else e ∷ insert_entry (eq_by_cmp term_cmp) spans t s) above
     ∙ ap (λ es. e ∷ es) (insert_last spans t s (All-tail (λ (x : TermKey × Span). term_cmp x.0 t ≡ Less) e spans all))
-
-then_less : (a b : Ordering) → ordering_then a b ≡ Less → is_eq a ≡ false → a ≡ Less
-then_less Less b e p = refl
-then_less Equal b e p = cc
-then_less Greater b e p = e
-
-equal_from : (o : Ordering) → is_eq o ≡ true → o ≡ Equal
-equal_from Less e = cc
-equal_from Equal e = refl
-equal_from Greater e = cc
 
 eq_flip : (a b : TermKey) → eq_by_cmp term_cmp a b ≡ false → is_eq (term_cmp b a) ≡ false
 eq_flip a b e = ap is_eq (term_total.antisymm b a) ∙ by (term_cmp a b) e
@@ -139,14 +127,14 @@ module _ {V : Type 0} (rows : List (Place × V)) where
   }
 
   read_span : (from i : ℕ) (spans : List (TermKey × Span)) (x : Place × V) → IsRead from i spans → i < length rows → x ≡ get_or rows i x → AreBefore (i + 1) (spans ++ (x.0.term, record { from = from; to = i + 1 }) ∷ [])
-      → IsRead (i + 1) (i + 1) (insert_entry term_cmp spans x.0.term (record { from = from; to = i + 1 }))
+      → IsRead (i + 1) (i + 1) (insert_entry (eq_by_cmp term_cmp) spans x.0.term (record { from = from; to = i + 1 }))
   read_span from i spans x read fits at before =
       subst (IsRead (i + 1) (i + 1)) (sym (insert_last spans x.0.term (record { from = from; to = i + 1 }) all)) (record {
         from = omega arith;
         list = retagged_more from i x spans read.list read.run read.from fits at;
         spans = record {
           sorted = sorted_push term_cmp spans x.0.term (record { from = from; to = i + 1 }) read.spans.sorted all;
-          within = All-push (λ e. (e.1.from ≤ e.1.to) × (e.1.to ≤ length rows)) spans (x.0.term, record { from = from; to = i + 1 }) read.spans.within (omega (arith, read.from), omega arith);
+          within = All-push (λ e. (e.1.from < e.1.to) × (e.1.to ≤ length rows)) spans (x.0.term, record { from = from; to = i + 1 }) read.spans.within (omega (arith, read.from), omega arith);
         };
         run = run_start (i + 1);
         before = before;
@@ -158,11 +146,11 @@ module _ {V : Type 0} (rows : List (Place × V)) where
           (λ e less. subst (λ (t : TermKey). term_cmp e.0 t ≡ Less) (read.run from x (omega arith) read.from fits ∙ ap (λ (r : Place × V). r.0.term) (sym at)) less) spans (read.before x (omega (arith, read.from)))
 
   pub read_last : (from i : ℕ) (spans : List (TermKey × Span)) (x : Place × V) → IsRead from i spans → i + 1 ≡ length rows → x ≡ get_or rows i x
-      → IsRead (i + 1) (i + 1) (insert_entry term_cmp spans x.0.term (record { from = from; to = i + 1 }))
+      → IsRead (i + 1) (i + 1) (insert_entry (eq_by_cmp term_cmp) spans x.0.term (record { from = from; to = i + 1 }))
   read_last from i spans x read ends at = read_span from i spans x read (omega arith) at (λ d fits. absurd (omega arith))
 
   pub read_end : (from i : ℕ) (spans : List (TermKey × Span)) (x y : Place × V) → T (is_sorted place_cmp rows) → IsRead from i spans → i + 1 < length rows → x ≡ get_or rows i x → y ≡ get_or rows (i + 1) y
-      → eq_by_cmp term_cmp y.0.term x.0.term ≡ false → IsRead (i + 1) (i + 1) (insert_entry term_cmp spans x.0.term (record { from = from; to = i + 1 }))
+      → eq_by_cmp term_cmp y.0.term x.0.term ≡ false → IsRead (i + 1) (i + 1) (insert_entry (eq_by_cmp term_cmp) spans x.0.term (record { from = from; to = i + 1 }))
   read_end from i spans x y sorted read fits at next apart =
       read_span from i spans x read (omega arith) at (before_more from i x y spans (record { from = from; to = i + 1 }) sorted read.before read.run read.from fits at next apart)
 

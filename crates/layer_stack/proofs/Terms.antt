@@ -1,11 +1,9 @@
 -- The postings of one term in a table, by look-ups.
-use Rattle.std.proofs.Common.{◌≡◌, ℕ, Bool, true, false, cond, not, ◌==◌, ◌&&◌, ◌||◌, List, [], ◌∷◌, ◌++◌, ◌+◌, take, map, filter, length, Option, None, Some, refl, sym, ◌∙◌, ap, subst, All, is_some, arith}
+use Rattle.std.proofs.Common.{◌≡◌, ℕ, Bool, true, false, cond, not, ◌==◌, ◌&&◌, ◌||◌, List, [], ◌∷◌, ◌++◌, ◌+◌, take, map, filter, length, Option, None, Some, refl, sym, ◌∙◌, ap, All, is_some, arith}
 use Rattle.std.specs.Prelude.{T}
 use Rattle.std.specs.FinMap as finite
-use Rattle.std.specs.FinMap.Entries.{find, is_sorted, is_sorted-where_key, below_all}
-use Rattle.std.specs.declared.cmp.Ordering.{Ordering}
-use Rattle.std.specs.declared.cmp.Ordering.TheVariants.{Less, Equal, Greater}
-use Rattle.std.specs.Ordering.{is_lt, is_eq, eq_by_cmp, ordering_then}
+use Rattle.std.specs.FinMap.Entries.{find, is_sorted, below_all}
+use Rattle.std.specs.Ordering.{is_eq, eq_by_cmp}
 use Rattle.std.proofs.lemmas.Bool.{eqb-true}
 use Rattle.std.proofs.lemmas.List.{take_more, map-append}
 use Rattle.std.proofs.lemmas.List.Elements.{All-nil, All-cons}
@@ -26,19 +24,14 @@ use Rattle.layer_stack.specs.declared.place.Place.{Place}
 use Rattle.layer_stack.specs.declared.place.TermKey.{TermKey}
 use Rattle.layer_stack.specs.Places.{term_cmp, place_cmp}
 use Rattle.layer_stack.specs.Postings.{PostingTable, PostingChanges, is_under, place_of, posting_of, key_of, postings_of, deletes_of}
-use Rattle.layer_stack.specs.Stacks.{PartValue, entry_of, posting_at, part_changes, part_table, remaining_of, StandsFrom}
-use Rattle.layer_stack.proofs.Order.{term_total, term_apart, place_total, place_apart}
-use Rattle.layer_stack.proofs.Sorted.{both, first, second, less_from, lt_from}
+use Rattle.layer_stack.specs.Stacks.{PartValue, entry_of, posting_at, part_changes, part_table, remaining_of}
+use Rattle.layer_stack.proofs.Order.{term_total, place_total, place_apart}
+use Rattle.layer_base.proofs.Sorted.{both, first, second, equal_from, is_eq-then, then_lt}
 use Rattle.layer_stack.proofs.Merged.{same_by_get, find-filter, get-part}
 
 -- a row without its term
 abbrev keyed : {V : Type 0} → Place × V → DocKey × V
 keyed row = (row.0.key, row.1)
-
-is_eq-then : (a b : Ordering) → is_eq (ordering_then a b) ≡ (is_eq a && is_eq b)
-is_eq-then Less b = refl
-is_eq-then Equal b = refl
-is_eq-then Greater b = refl
 
 find-under : {V : Type 0} (t : TermKey) (k : DocKey) (es : List (Place × V)) → find place_cmp (place_of t k) es ≡ find doc_cmp k (map keyed (filter (is_under t) es))
 find-under t k [] = refl
@@ -71,16 +64,6 @@ get-layer t k table layer =
     (cond ((ap is_some (get-under t k layer.deletes) ∙ has_key-rows k (filter (is_under t) (finite.entries layer.deletes))) i) None (finite.get table (place_of t k))))
 
 -- ---- the rows of a term are in rank order
-
-then_lt : (a b : Ordering) → is_eq a ≡ true → T (is_lt (ordering_then a b)) → T (is_lt b)
-then_lt Less b e p = cc
-then_lt Equal b e p = p
-then_lt Greater b e p = cc
-
-equal_from : (o : Ordering) → is_eq o ≡ true → o ≡ Equal
-equal_from Less e = cc
-equal_from Equal e = refl
-equal_from Greater e = cc
 
 module _ {V : Type 0} (t : TermKey) where
   below_keyed : (e : Place × V) (es : List (Place × V)) → is_under t e ≡ true → T (below_all place_cmp e.0 es) → T (below_all doc_cmp e.0.key (map keyed (filter (is_under t) es)))

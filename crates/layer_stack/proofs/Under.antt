@@ -1,15 +1,14 @@
 -- The rows of one term among rows that are laid out by terms.
-use Rattle.std.proofs.Common.{◌≡◌, ℕ, zero, suc, ◌+◌, ◌-◌, ◌<◌, ◌≤◌, Bool, true, false, cond, ◌&&◌, List, [], ◌∷◌, ◌++◌, map, filter, length, Option, None, Some, refl, sym, ◌∙◌, ap, subst, arith, All}
+use Rattle.std.proofs.Common.{◌≡◌, Bool, true, false, cond, List, [], ◌∷◌, ◌++◌, map, filter, length, Option, None, Some, refl, sym, ◌∙◌, ap, subst, All}
 use Rattle.std.specs.Prelude.{T}
 use Rattle.std.specs.FinMap as finite
-use Rattle.std.specs.FinMap.Entries.{find, is_sorted, below_all, is_sorted-where_key}
+use Rattle.std.specs.FinMap.Entries.{is_sorted, below_all, is_sorted-where_key}
 use Rattle.std.specs.declared.cmp.Ordering.{Ordering}
 use Rattle.std.specs.declared.cmp.Ordering.TheVariants.{Less, Equal, Greater}
 use Rattle.std.specs.Ordering.{is_lt, is_eq, eq_by_cmp, ordering_then}
 use Rattle.std.specs.Option.{unwrap_or}
-use Rattle.std.proofs.lemmas.List.Elements.{All-head, All-tail, All-cons, All-nil}
+use Rattle.std.proofs.lemmas.List.Elements.{All-head, All-tail, All-cons, All-nil, filter-append}
 use Rattle.uni_base.specs.declared.entity.DocKey.{DocKey}
-use Rattle.uni_base.specs.declared.edge.Audience.{Audience}
 use Rattle.uni_base.specs.RankOrder.{doc_cmp}
 use Rattle.uni_base.specs.Cursors.{is_before, is_less, IsRanked}
 use Rattle.posting_lists.specs.declared.posting.Posting.{Posting}
@@ -21,29 +20,12 @@ use Rattle.layer_stack.specs.Places.{term_cmp, place_cmp}
 use Rattle.layer_stack.specs.Postings.{is_under, posting_of, key_of, place_of}
 use Rattle.layer_stack.specs.Spans.{spanned, tagged, span_of, put_rows, delete_rows, AreLaid}
 use Rattle.layer_stack.proofs.Order.{term_total, term_apart}
-use Rattle.layer_stack.proofs.Sorted.{first, second, less_from}
+use Rattle.layer_base.proofs.Sorted.{first, second, equal_from, then_lt, find_below}
 
 -- what a look-up of a span tells of a list
 abbrev pub told : {X : Type 0} → Option Span → List X → List X
 told None xs = []
 told (Some s) xs = spanned s xs
-
-pub filter-append : {X : Type 0} (p : X → Bool) (xs ys : List X) → filter p (xs ++ ys) ≡ filter p xs ++ filter p ys
-filter-append p [] ys = refl
-filter-append p (x ∷ xs) ys =
-    elim (p x) as (λ b. cond b (x ∷ filter p (xs ++ ys)) (filter p (xs ++ ys)) ≡ cond b (x ∷ filter p xs) (filter p xs) ++ filter p ys) [
-      | true ↦ ap (λ zs. x ∷ zs) (filter-append p xs ys)
-      | false ↦ filter-append p xs ys
-    ]
-
-find_below : {K X : Type 0} (R : K → K → Ordering) (q : K) (es : List (K × X)) → T (below_all R q es) → find R q es ≡ None
-find_below R q [] below = refl
-find_below R q (e ∷ es) below = ap (λ r. cond (is_eq r) (Some e.1) (find R q es)) (less_from _ (first _ _ below)) ∙ find_below R q es (second _ _ below)
-
-equal_from : (o : Ordering) → is_eq o ≡ true → o ≡ Equal
-equal_from Less e = cc
-equal_from Equal e = refl
-equal_from Greater e = cc
 
 module _ {X V : Type 0} (tag : TermKey → X → Place × V) (keeps : (t : TermKey) (x : X) → (tag t x).0.term ≡ t) where
   same_term : (t s : TermKey) (xs : List X) (b : Bool) → eq_by_cmp term_cmp t s ≡ b → filter (is_under t) (map (tag s) xs) ≡ cond b (map (tag s) xs) []
@@ -89,11 +71,6 @@ pub sorted_ranked : {V : Type 0} (es : List (DocKey × V)) → T (is_sorted doc_
 sorted_ranked [] sorted = tt
 sorted_ranked (e ∷ es) sorted = (below_ranked e.0 es (first _ _ sorted), sorted_ranked es (second _ _ sorted))
 
-then_lt : (a b : Ordering) → a ≡ Equal → T (is_lt (ordering_then a b)) → T (is_lt b)
-then_lt Less b e p = cc
-then_lt Equal b e p = p
-then_lt Greater b e p = cc
-
 term_self : (t : TermKey) → term_cmp t t ≡ Equal
 term_self t = by (term_cmp t t) (term_total.antisymm t t)
   where
@@ -107,7 +84,7 @@ module _ {X V : Type 0} (tag : TermKey → X → Place × V) (key : X → DocKey
   below_tags t k [] below = All-nil (λ y. is_before k y ≡ true)
   below_tags t k (x ∷ xs) below =
       let lt : T (is_lt (place_cmp (place_of t k) (place_of t (key x)))) = subst (λ (p : Place). T (is_lt (place_cmp (place_of t k) p))) (keeps t x) (first _ _ below) in
-      All-cons (λ y. is_before k y ≡ true) (key x) (map key xs) (less_is (doc_cmp k (key x)) (then_lt (term_cmp t t) (doc_cmp k (key x)) (term_self t) lt)) (below_tags t k xs (second _ _ below))
+      All-cons (λ y. is_before k y ≡ true) (key x) (map key xs) (less_is (doc_cmp k (key x)) (then_lt (term_cmp t t) (doc_cmp k (key x)) (ap is_eq (term_self t)) lt)) (below_tags t k xs (second _ _ below))
 
   pub tags_ranked : (t : TermKey) (xs : List X) → T (is_sorted place_cmp (map (tag t) xs)) → IsRanked (map key xs)
   tags_ranked t [] sorted = tt

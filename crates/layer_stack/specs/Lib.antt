@@ -1,4 +1,6 @@
+pub mod Hashes
 pub mod Places
 pub mod Postings
 pub mod Spans
 pub mod Stacks
+pub mod Words

@@ -25,6 +25,14 @@ place_of term key = record { term = term; key = key }
 abbrev pub no_changes : PostingChanges
 no_changes = record { deletes = finite.empty; puts = finite.empty }
 
+-- what a layer deletes and what it puts
+abbrev pub changes_of : finite.FinMap place_cmp (Unit {0}) → PostingTable → PostingChanges
+changes_of deletes puts = record { deletes = deletes; puts = puts }
+
+-- a layer that puts the postings of a table, and deletes nothing
+abbrev pub putting_all : PostingTable → PostingChanges
+putting_all = changes_of finite.empty
+
 -- with one more place deleted
 abbrev pub deleting : PostingChanges → Place → PostingChanges
 deleting changes place = record { deletes = finite.insert changes.deletes place tt; puts = changes.puts }

@@ -1,6 +1,6 @@
 -- What a stack has under one term: the deleted keys and the postings of each layer that has the
 -- term, the oldest first.
-use Rattle.std.specs.Prelude.{◌≡◌, Bool, true, false, Option, None, Some, List, [], ◌∷◌, map, filter, All, cond}
+use Rattle.std.specs.Prelude.{◌≡◌, Bool, false, Option, None, Some, List, [], ◌∷◌, map, filter, All, cond}
 use Rattle.std.specs.List.{slice_get}
 use Rattle.std.specs.Ordering.{is_eq}
 use Rattle.std.specs.FinMap as finite

@@ -1,16 +1,19 @@
-ghost use Rattle.std.specs.Prelude.{◌≡◌, IfOk, OnOk, length};
+ghost use Rattle.std.specs.Prelude.{◌≡◌, ◌≤◌, IfOk, OnOk, length, is_some, slice_get};
+ghost use Rattle.layer_stack.specs.Words.{IsWordFrom};
 ghost use Rattle.std.specs.Prelude.{T};
-ghost use Rattle.std.specs.BTreeMap.{insert_entry};
+ghost use Rattle.indexmap.specs.IndexMap.{insert_entry};
 ghost use Rattle.std.specs.FinMap.{is_sorted};
 ghost use Rattle.std.specs.Ordering.{eq_by_cmp};
 ghost use Rattle.layer_stack.specs.Places.{place_cmp, term_cmp, term_of};
-ghost use Rattle.layer_stack.specs.Spans.{retagged, IsSpans, span_of};
+ghost use Rattle.layer_stack.specs.Spans.{retagged, spanned, IsSpans, span_of};
 
+use crate::words::{is_passed, word_at};
 use crate::{Place, TermKey};
+use indexmap::IndexMap;
+use indexmap::map::Iter;
 use std::alloc::{AllocError, Global};
-use std::collections::BTreeMap;
 use std::marker::Model;
-use uni_base::Key;
+use uni_base::{DocKey, Key, Word};
 
 /// Where the rows of a term stand: from a place up to another.
 #[derive(Clone, Copy)]
@@ -22,7 +25,7 @@ pub(crate) struct Span {
 /// Where the rows of each term stand among rows in the order of places.
 #[derive(Drop)]
 pub(crate) struct Directory {
-    spans: BTreeMap<TermKey, Span>,
+    spans: IndexMap<TermKey, Span>,
 }
 
 impl Model for Directory {
@@ -43,7 +46,7 @@ impl Directory {
         ensures spans { IfOk result (IsSpans (length rows.now)) }
     {
         let mut directory = Directory {
-            spans: BTreeMap::new(alloc),
+            spans: IndexMap::new(alloc),
         };
         let mut from = 0;
         for i in 0..rows.len() {
@@ -57,7 +60,7 @@ impl Directory {
     }
 
     fn note(&mut self, type_no: u16, key: Key, span: Span) -> Result<(), AllocError>
-        ensures { OnOk result (self.new ≡ insert_entry term_cmp self.old (term_of type_no key) span) }
+        ensures { OnOk result (self.new ≡ insert_entry (eq_by_cmp term_cmp) self.old (term_of type_no key) span) }
     {
         self.spans.insert(TermKey { type_no, key }, span)?;
         Ok(())
@@ -69,10 +72,41 @@ impl Directory {
     {
         self.spans.get(term).copied()
     }
+
+    // The terms in their order, each with where its rows stand.
+    pub(crate) fn iter(&self) -> Iter<'_, TermKey, Span>
+        ensures { result ≡ self.now }
+    {
+        self.spans.iter()
+    }
+
+    // The least word from a given one on, past it where `strict`, at which a term of a type starts.
+    pub(crate) fn word_from(&self, type_no: u16, from: &Word, strict: bool) -> Option<Word>
+        requires { T (is_sorted term_cmp self.now) }
+        ensures { IsWordFrom (λ t. is_some (span_of t self.now)) type_no from.now strict result }
+    {
+        let from = TermKey {
+            type_no,
+            key: Key::Word(*from),
+        };
+        let at = self
+            .spans
+            .partition_point(|term, _span| is_passed(strict, &from, term));
+        let (term, _span) = self.spans.get_index(at)?;
+        word_at(term, type_no)
+    }
 }
 
 fn is_same(term: &TermKey, other: &TermKey) -> bool
     ensures { result ≡ eq_by_cmp term_cmp term.now other.now }
 {
     term == other
+}
+
+// What a span tells of keys.
+pub(crate) fn part(keys: &[DocKey], span: Span) -> &[DocKey]
+    requires { (span.from ≤ span.to) × (span.to ≤ length keys.now) }
+    ensures { result.now ≡ spanned span keys.now }
+{
+    &keys[span.from..span.to]
 }

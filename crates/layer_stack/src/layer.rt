@@ -1,18 +1,22 @@
-ghost use Rattle.std.specs.Prelude.{◌≡◌, ◌≤◌, ◌+◌, ◌^◌, T, length, map, IfOk};
+ghost use Rattle.std.specs.Prelude.{◌≡◌, ◌≤◌, ◌+◌, ◌++◌, T, length, map, IfOk, OnOk};
 ghost use Rattle.std.specs.FinMap as finite;
 ghost use Rattle.std.specs.FinMap.{is_sorted};
 ghost use Rattle.layer_stack.specs.Places.{place_cmp};
 ghost use Rattle.uni_base.specs.Cursors.{IsRanked};
-ghost use Rattle.layer_stack.specs.Spans.{spanned};
-ghost use Rattle.layer_stack.specs.Postings.{posting_of, key_of, postings_of, deletes_of, entries_of};
+ghost use Rattle.layer_base.specs.Changes.{in_turn};
+ghost use Rattle.layer_stack.specs.Postings.{posting_of, key_of, postings_of, deletes_of, entries_of, changes_of, putting_all};
+ghost use Rattle.layer_stack.specs.Words.{has_term, IsWordFrom};
 
-use crate::directory::{Directory, Span};
+use crate::directory::{Directory, part};
+use crate::logged::{log_deletes, log_puts};
+use crate::words::earlier;
 use crate::{Delta, Place, TermKey};
 use layer_base::last_words;
 use posting_lists::{ListCursor, Posting, PostingColumns};
 use std::alloc::{AllocError, Global};
 use std::marker::Model;
-use uni_base::{Audience, DocKey};
+use std::sync::ledger::Ledger;
+use uni_base::{Audience, DocKey, Steps, Word};
 
 /// How many deletes, and how many puts, a layer has at most.
 const MOST_ROWS: usize = 1 << 61;
@@ -52,11 +56,36 @@ impl Layer {
         let Delta { deletes, puts } = delta;
         let puts = last_words(puts)?;
         let deletes = last_words(deletes)?;
+        Layer::laid(alloc, &deletes, &puts)
+    }
+
+    /// The layer that puts the postings of a table, in the order of places, and deletes nothing.
+    /// More than 2^61 of them find no memory.
+    pub fn of_postings(alloc: Global, rows: &[(Place, Audience)]) -> Result<Layer, AllocError>
+        requires { T (is_sorted place_cmp rows.now) }
+        ensures { IfOk result (λ layer. layer ≡ putting_all (finite.from_sorted rows.now)) }
+    {
+        Layer::laid(alloc, &[], rows)
+    }
+
+    // The layer of rows in the order of places.
+    fn laid(
+        alloc: Global,
+        deletes: &[(Place, ())],
+        puts: &[(Place, Audience)],
+    ) -> Result<Layer, AllocError>
+        requires deletes { T (is_sorted place_cmp deletes.now) }
+        requires puts { T (is_sorted place_cmp puts.now) }
+        ensures { IfOk result (λ layer. layer ≡ changes_of (finite.from_sorted deletes.now) (finite.from_sorted puts.now)) }
+    {
+        if deletes.len() > MOST_ROWS || puts.len() > MOST_ROWS {
+            return Err(AllocError);
+        }
         Ok(Layer {
-            puts: Directory::of(alloc, &puts)?,
-            postings: columns(alloc, &puts)?,
-            deletes: Directory::of(alloc, &deletes)?,
-            deleted: keys(alloc, &deletes)?,
+            puts: Directory::of(alloc, puts)?,
+            postings: columns(alloc, puts)?,
+            deletes: Directory::of(alloc, deletes)?,
+            deleted: keys(alloc, deletes)?,
         })
     }
 
@@ -65,6 +94,34 @@ impl Layer {
         ensures { result ≡ entries_of self.now }
     {
         self.postings.len() as u64 + self.deleted.len() as u64
+    }
+
+    /// Adds its changes to a log of changes: what it deletes, and then what it puts, each in the
+    /// order of places.
+    pub fn log_changes(&self, log: &mut Vec<(Place, Option<Audience>)>) -> Result<(), AllocError>
+        ensures { OnOk result (log.new.items ≡ log.old.items ++ in_turn self.now) }
+    {
+        log_deletes(log, &self.deletes, &self.deleted)?;
+        log_puts(log, &self.puts, &self.postings)
+    }
+
+    /// The least word, from a given one on and past it where `strict`, at which the layer has a
+    /// delete or a put of a type. None exactly where there is none. It counts one step, and takes
+    /// no memory.
+    pub fn word_from<L: Ledger>(
+        &self,
+        type_no: u16,
+        from: &Word,
+        strict: bool,
+        steps: &mut Steps<L>,
+    ) -> Option<Word>
+        ensures least { IsWordFrom (λ t. has_term t self.now) type_no from.now strict result }
+        ensures counted { steps.new ≡ steps.old + 1 }
+    {
+        steps.tick();
+        let deleted = self.deletes.word_from(type_no, from, strict);
+        let put = self.puts.word_from(type_no, from, strict);
+        earlier(deleted, put)
     }
 
     // The postings that it puts under a term.
@@ -87,13 +144,6 @@ impl Layer {
             None => &[],
         }
     }
-}
-
-fn part(keys: &[DocKey], span: Span) -> &[DocKey]
-    requires { (span.from ≤ span.to) × (span.to ≤ length keys.now) }
-    ensures { result.now ≡ spanned span keys.now }
-{
-    &keys[span.from..span.to]
 }
 
 // The postings of rows, in columns.

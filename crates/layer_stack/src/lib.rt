@@ -6,12 +6,14 @@ mod cursor;
 mod delta;
 mod directory;
 mod layer;
+mod logged;
 mod merge;
 mod part;
 mod place;
 mod stack;
 #[cfg(test)]
 mod tests;
+mod words;
 
 pub use cursor::StackCursor;
 pub use delta::Delta;

@@ -94,11 +94,15 @@ impl<'a> Part<'a> {
     }
 }
 
-// Whether keys have a key.
+// Whether keys in rank order have a key, which it finds by halving.
 fn holds(keys: &[DocKey], key: &DocKey) -> bool
+    requires { IsRanked keys.now }
     ensures { result ≡ has_key keys.now key.now }
 {
-    keys.iter().any(|other| is_same(other, key))
+    match keys.binary_search(key) {
+        Ok(_) => true,
+        Err(_) => false,
+    }
 }
 
 fn is_same(key: &DocKey, other: &DocKey) -> bool

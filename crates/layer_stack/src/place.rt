@@ -2,6 +2,7 @@ ghost use Rattle.std.specs.Prelude.{◌≡◌};
 ghost use Rattle.layer_stack.specs.Postings.{place_of};
 ghost use Rattle.layer_stack.specs.Places.{term_of};
 
+use std::hash::{Hash, Hasher};
 use uni_base::{DocKey, Key};
 
 /// A term: the type of an edge and where it starts. Terms are in the order of their types, then of
@@ -10,6 +11,22 @@ use uni_base::{DocKey, Key};
 pub struct TermKey {
     pub type_no: u16,
     pub key: Key,
+}
+
+impl Hash for TermKey {
+    ghost use Rattle.layer_stack.specs.Hashes.{term_writes, term_alike};
+
+    ghost hash_input = { term_writes };
+
+    ghost respects_eq = { term_alike };
+
+    fn hash<H: Hasher>(&self, state: &mut H) {
+        self.type_no.hash(state);
+        match &self.key {
+            Key::Id(id) => id.hash(state),
+            Key::Word(word) => word.hash(state),
+        }
+    }
 }
 
 /// The place of a posting in a table: its term, and then its key in rank order.

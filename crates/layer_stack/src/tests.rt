@@ -1,13 +1,15 @@
-ghost use Rattle.std.specs.Prelude.{◌<◌};
+ghost use Rattle.std.specs.Prelude.{◌≡◌, ◌<◌};
 
 use crate::{Delta, Layer, Stack, TermKey};
 use posting_lists::Posting;
 use std::alloc::Global;
+use std::marker::Brand;
 use std::sync::Arc;
+use std::sync::ledger::{Blank, Ledger};
 use std::test::Fail;
-use uni_base::{Audience, DocCursor, DocKey, EntityId, Key, Rank};
+use uni_base::{Audience, DocCursor, DocKey, EntityId, Key, Rank, Steps, Word};
 
-/// How many places there are: two terms with eight keys each.
+/// How many places there are: two terms with eight keys each, one of an entity and one of a word.
 const PLACES: usize = 16;
 
 // Numbers in no order, the same at each run.
@@ -33,10 +35,24 @@ fn entity(n: u64) -> Result<EntityId, Fail> {
     EntityId::new(n).ok_or_else(|| Fail::new("no entity has the number 0"))
 }
 
+fn word(text: &[u8]) -> Result<Word, Fail> {
+    Word::read(text).ok_or_else(|| Fail::new("the text is no word"))
+}
+
+fn word_term(type_no: u16, text: &[u8]) -> Result<TermKey, Fail> {
+    Ok(TermKey {
+        type_no,
+        key: Key::Word(word(text)?),
+    })
+}
+
 fn term(n: u64) -> Result<TermKey, Fail> {
+    if n == 0 {
+        return word_term(3, b"hiking");
+    }
     Ok(TermKey {
         type_no: 3,
-        key: Key::Id(entity(n.saturating_add(1))?),
+        key: Key::Id(entity(n)?),
     })
 }
 
@@ -115,5 +131,64 @@ fn stacks_are_read_like_a_table(rt: HostRuntime) -> Result<(), Fail> {
             assert_eq!(rt; cursor.peek(), None, "case {case} at {t}");
         }
     }
+    Ok(())
+}
+
+// A layer that puts under words at the ends of the byte order, deletes under one, and has other
+// terms beside them.
+fn worded_layer(alloc: Global) -> Result<Layer, Fail> {
+    let mut delta = Delta::new(alloc);
+    let posting = Posting {
+        key: key(1)?,
+        audience: Audience::Public,
+    };
+    for text in b"- 0 _ a a-b zzzzzzzzzzzzzzzzzzzzzzzzzzzzzzzz".split(|byte| *byte == b' ') {
+        delta.put(word_term(5, text)?, posting)?;
+    }
+    delta.delete(word_term(5, b"m")?, posting.key)?;
+    delta.put(word_term(4, b"b")?, posting)?;
+    delta.put(word_term(6, b"z")?, posting)?;
+    delta.put(term(7)?, posting)?;
+    Ok(Layer::build(alloc, delta)?)
+}
+
+// The least words of a type in that layer, from a word on and past it.
+fn least_from(
+    alloc: Global,
+    type_no: u16,
+    from: &[u8],
+) -> Result<(Option<Word>, Option<Word>), Fail> {
+    let layer = worded_layer(alloc)?;
+    let from = word(from)?;
+    Ok(both_from::<Brand>(&layer, type_no, &from, Blank::new(1)))
+}
+
+fn both_from<L: Ledger>(
+    layer: &Layer,
+    type_no: u16,
+    from: &Word,
+    blank: Blank,
+) -> (Option<Word>, Option<Word>)
+    requires name { blank.name ≡ L.name }
+    requires parts { (blank.parts ≡ L.parts) × (0 < blank.parts) }
+{
+    let mut steps = Steps::<L>::new(blank);
+    let at = layer.word_from(type_no, from, false, &mut steps);
+    let past = layer.word_from(type_no, from, true, &mut steps);
+    (at, past)
+}
+
+#[test]
+fn words_from_a_word_on(rt: HostRuntime) -> Result<(), Fail> {
+    let least = |text: &[u8]| least_from(rt.alloc(), 5, text);
+    let last = b"zzzzzzzzzzzzzzzzzzzzzzzzzzzzzzzz";
+    assert_eq!(rt; least(b"-")?, (Word::read(b"-"), Word::read(b"0")));
+    assert_eq!(rt; least(b"--")?, (Word::read(b"0"), Word::read(b"0")));
+    assert_eq!(rt; least(b"a")?, (Word::read(b"a"), Word::read(b"a-b")));
+    assert_eq!(rt; least(b"b")?, (Word::read(b"m"), Word::read(b"m")));
+    assert_eq!(rt; least(b"m")?, (Word::read(b"m"), Word::read(last)));
+    assert_eq!(rt; least(last)?, (Word::read(last), None));
+    assert_eq!(rt; least_from(rt.alloc(), 4, b"c")?, (None, None));
+    assert_eq!(rt; worded_layer(rt.alloc())?.entries(), 10);
     Ok(())
 }

@@ -1,9 +1,6 @@
-use Rattle.std.proofs.Common.{rules, arith, ◌≡◌, ◌+◌, ◌-◌, ◌*◌, ◌/◌, ◌≤◌, ◌<◌, ◌++◌, ◌∷◌, [], List, take, drop, length, map, subst, sym, ap, ◌∙◌, All}
+use Rattle.std.proofs.Common.{rules, arith, ◌≡◌, ◌+◌, ◌-◌, ◌*◌, ◌≤◌, ◌++◌, ◌∷◌, [], take, drop, length, subst, sym, ap, ◌∙◌}
 use Rattle.std.proofs.lemmas.List.{map-append, take-map, drop-map, length-append, length-map, length-take-le, length-drop}
 use Rattle.std.proofs.lemmas.List.Elements.{All-push}
-use Rattle.std.specs.declared.sync.Arc.{Arc}
-use Rattle.std.specs.declared.vec.Vec.{Vec}
-use Rattle.std.specs.Global.{Global}
 use Rattle.layer_base.specs.Shared.{values, layers_in, AreWhole}
 use Rattle.layer_base.proofs.Frozen.{frozen_more}
 use Rattle.layer_base.proofs.blocks.freeze.Goals as goal

@@ -1,4 +1,4 @@
-use Rattle.std.proofs.Common.{rules, ◌≡◌, ◌+◌, ◌++◌, ◌∷◌, [], None, cond, List, take, map, get_or, ap, ◌∙◌, sym, refl}
+use Rattle.std.proofs.Common.{◌≡◌, ◌+◌, ◌++◌, ◌∷◌, [], None, cond, take, map, ap, ◌∙◌, sym}
 use Rattle.std.specs.FinMap as finite
 use Rattle.std.specs.FinMap.Entries.{find}
 use Rattle.std.proofs.lemmas.List.{take_more, map-append}
@@ -7,7 +7,7 @@ use Rattle.uni_base.specs.KeySets.{has_key}
 use Rattle.layer_base.specs.Lookups.{either}
 use Rattle.layer_base.specs.Layers.{stack_over}
 use Rattle.layer_base.proofs.Tables.{stack_over-append}
-use Rattle.layer_stack.specs.Stacks.{PartValue, entry_of, part_changes, part_table}
+use Rattle.layer_stack.specs.Stacks.{entry_of, part_changes, part_table}
 use Rattle.layer_stack.proofs.Merged.{get-part}
 use Rattle.layer_stack.proofs.merge.decided.Goals as goal
 

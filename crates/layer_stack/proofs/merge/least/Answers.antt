@@ -1,9 +1,9 @@
-use Rattle.std.proofs.Common.{rules, arith, ◌≡◌, ◌+◌, ◌++◌, ◌∷◌, [], None, List, take, drop, length, All, get_or, ap, ◌∙◌, sym, subst}
+use Rattle.std.proofs.Common.{◌≡◌, ◌+◌, ◌++◌, ◌∷◌, [], List, take, drop, All, ap, ◌∙◌, sym, subst}
 use Rattle.std.proofs.lemmas.List.{take_more, drop_more, take_all}
 use Rattle.std.proofs.lemmas.List.Elements.{All-push}
 use Rattle.uni_base.specs.Cursors.{IsRanked}
 use Rattle.posting_lists.specs.Postings.{keys_of}
-use Rattle.layer_stack.specs.Stacks.{PartValue, least_from, lesser, head_of}
+use Rattle.layer_stack.specs.Stacks.{PartValue, least_from, lesser}
 use Rattle.layer_stack.proofs.merge.least.Goals as goal
 
 pub loop-part-preserved : goal.loop-part-preserved

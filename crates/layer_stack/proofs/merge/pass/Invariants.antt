@@ -1,4 +1,4 @@
-use Rattle.std.proofs.Common.{◌≡◌, ◌++◌, map, not, take, drop}
+use Rattle.std.proofs.Common.{◌≡◌, ◌++◌, map, take, drop}
 use Rattle.uni_base.specs.Cursors.{is_before}
 use Rattle.layer_stack.specs.Stacks.{part_where}
 use Rattle.layer_stack.proofs.merge.pass.Given as goal

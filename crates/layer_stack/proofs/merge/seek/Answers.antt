@@ -1,4 +1,4 @@
-use Rattle.std.proofs.Common.{rules, ◌≡◌, not, set, ap, ◌∙◌, sym}
+use Rattle.std.proofs.Common.{not, set, ap, ◌∙◌, sym}
 use Rattle.std.proofs.lemmas.List.Edits.{map_over_more}
 use Rattle.uni_base.specs.Cursors.{is_before}
 use Rattle.layer_stack.specs.Stacks.{PartValue, part_where}

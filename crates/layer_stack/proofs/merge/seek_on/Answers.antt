@@ -1,4 +1,4 @@
-use Rattle.std.proofs.Common.{rules, ◌≡◌, ap, ◌∙◌, not}
+use Rattle.std.proofs.Common.{ap, ◌∙◌, not}
 use Rattle.uni_base.specs.Cursors.{is_before}
 use Rattle.layer_stack.specs.Stacks.{remaining_of}
 use Rattle.layer_stack.proofs.Merged.{remaining-where}

@@ -1,10 +1,9 @@
-use Rattle.std.proofs.Common.{rules, arith, ◌≡◌, ◌<◌, None, Some, List, map, All, ap, ◌∙◌, sym, subst, ◌⊎◌, ⊎_elim, is_some, slice_get}
+use Rattle.std.proofs.Common.{rules, ◌≡◌, ◌<◌, None, Some, List, ap, ◌∙◌, sym, subst, ⊎_elim, is_some, slice_get}
 use Rattle.std.specs.Prelude.{T}
 use Rattle.uni_base.specs.declared.entity.DocKey.{DocKey}
 use Rattle.std.specs.FinMap as finite
-use Rattle.uni_base.specs.Cursors.{is_before}
-use Rattle.layer_stack.specs.Stacks.{PartValue, part_table, remaining_of, part_where, StandsFrom, least_from}
-use Rattle.layer_stack.proofs.Merged.{Least, least_some, least_none, front_is, hidden_passes, none_left, total_of, total_falls, HasHead}
+use Rattle.layer_stack.specs.Stacks.{PartValue, part_table, remaining_of, least_from}
+use Rattle.layer_stack.proofs.Merged.{least_some, least_none, front_is, hidden_passes, none_left, total_of, total_falls, HasHead}
 use Rattle.layer_stack.proofs.merge.settle.Goals as goal
 
 pub decided-requires : goal.decided-requires

@@ -1,8 +1,8 @@
-use Rattle.std.proofs.Common.{rules, arith, ◌≡◌, ◌+◌, ◌-◌, ◌*◌, ◌/◌, ◌%◌, ◌<◌, ◌≤◌, length, get_or, slice_get, Some, ap, ◌∙◌, sym, refl}
+use Rattle.std.proofs.Common.{rules, arith, ◌≡◌, ◌-◌, ◌*◌, ◌/◌, ◌%◌, length, get_or, slice_get, Some, ap, ◌∙◌, sym, refl}
 use Rattle.std.proofs.lemmas.List.{length-map}
-use Rattle.std.proofs.lemmas.Option.{slice_get_read, slice_get_within}
+use Rattle.std.proofs.lemmas.Option.{slice_get_read}
 use Rattle.std.specs.Vec.{vec_len}
-use Rattle.layer_base.specs.Shared.{values, layers_of}
+use Rattle.layer_base.specs.Shared.{values}
 use Rattle.layer_base.proofs.Frozen.{slice_get-map, in_block, past_blocks, length-layers_of, whole_at}
 use Rattle.layer_base.proofs.shared.SharedLayers.layer.Goals as goal
 

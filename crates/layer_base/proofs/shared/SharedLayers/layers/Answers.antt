@@ -1,4 +1,4 @@
-use Rattle.std.proofs.Common.{rules, arith, ◌≡◌, ◌+◌, ◌*◌, length, ap, ◌∙◌, sym}
+use Rattle.std.proofs.Common.{rules, arith, ◌≡◌, length, ap}
 use Rattle.std.proofs.lemmas.List.{length-map}
 use Rattle.layer_base.specs.Shared.{values}
 use Rattle.layer_base.proofs.Frozen.{length-layers_of}

@@ -1,6 +1,6 @@
-use Rattle.std.proofs.Common.{rules, arith, ◌≡◌, ◌+◌, ◌-◌, ◌*◌, ◌/◌, ◌++◌, List, take, drop, length, ap, ◌∙◌, sym, refl, append_assoc}
+use Rattle.std.proofs.Common.{rules, arith, ◌≡◌, ◌-◌, ◌*◌, ◌/◌, ◌++◌, take, drop, length, ap, ◌∙◌, sym, append_assoc}
 use Rattle.std.proofs.lemmas.List.{drop-map, take-append-drop, take_all, length-drop}
-use Rattle.layer_base.specs.Shared.{values, layers_in, layers_of}
+use Rattle.layer_base.specs.Shared.{values, layers_in}
 use Rattle.layer_base.proofs.shared.SharedLayers.roomy.Goals as goal
 
 pub returns-clause-layers : goal.returns-clause-layers

@@ -1,4 +1,4 @@
-use Rattle.std.proofs.Common.{rules, ◌≡◌, List, ap, ◌∙◌, sym, subst, slice_get, Some, None}
+use Rattle.std.proofs.Common.{ap, ◌∙◌, sym, subst, slice_get}
 use Rattle.std.specs.Option.{option_map}
 use Rattle.std.proofs.lemmas.Option.{slice_get-map}
 use Rattle.uni_base.specs.Cursors.{IsRanked}

@@ -1,6 +1,5 @@
-use Rattle.std.proofs.Common.{rules, arith, length, ◌≡◌, List, ap, ◌∙◌, sym}
+use Rattle.std.proofs.Common.{rules, arith, length, ◌≡◌, ap, ◌∙◌}
 use Rattle.std.proofs.lemmas.List.{with_items_is}
-use Rattle.posting_lists.specs.declared.posting.Posting.{Posting}
 use Rattle.posting_lists.specs.Postings.{keys_of, postings_from}
 use Rattle.posting_lists.proofs.Sections.{keys_of-postings_from}
 use Rattle.layer_stack.specs.Stacks.{remaining_of}

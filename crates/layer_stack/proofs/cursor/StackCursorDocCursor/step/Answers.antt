@@ -1,10 +1,7 @@
-use Rattle.std.proofs.Common.{rules, arith, length, ◌≡◌, ◌∷◌, [], List, true, cond, drop, filter, ap, ◌∙◌, sym, slice_get, Some, None, subst, is_some, refl, All}
-use Rattle.std.specs.Prelude.{T}
+use Rattle.std.proofs.Common.{rules, arith, length, ◌≡◌, ◌∷◌, [], List, drop, filter, ap, ◌∙◌, sym, slice_get, Some, None, refl}
 use Rattle.std.specs.Option.{unwrap_or}
 use Rattle.std.proofs.lemmas.List.{drop-map, with_items_is}
-use Rattle.uni_base.specs.declared.entity.DocKey.{DocKey}
-use Rattle.uni_base.specs.Cursors.{is_before, IsRanked}
-use Rattle.uni_base.proofs.RankedLemmas.{is_eq_same, IsBeforeAll-ranked, is_before_self}
+use Rattle.uni_base.specs.Cursors.{is_before}
 use Rattle.posting_lists.specs.declared.posting.Posting.{Posting}
 use Rattle.posting_lists.specs.Postings.{keys_of}
 use Rattle.layer_stack.specs.Stacks.{remaining_of}

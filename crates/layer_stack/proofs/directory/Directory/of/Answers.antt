@@ -1,5 +1,5 @@
-use Rattle.std.proofs.Common.{rules, arith, ◌≡◌, ◌≤◌, ◌<◌, ◌+◌, length, get_or, take, ap, ◌∙◌, sym, subst, true, false, not, ℕ, List}
-use Rattle.std.specs.BTreeMap.{insert_entry}
+use Rattle.std.proofs.Common.{rules, arith, ◌≡◌, ◌<◌, ◌+◌, length, sym, subst, ℕ, List}
+use Rattle.indexmap.specs.IndexMap.{insert_entry}
 use Rattle.std.specs.Ordering.{eq_by_cmp}
 use Rattle.layer_stack.specs.Places.{term_cmp}
 use Rattle.layer_stack.specs.declared.directory.Span.{Span}
@@ -20,8 +20,8 @@ loop-i-preserved g c =
     let next : IsRead rows c.if-i-rows.from (i + 1) c.if-i-rows.directory =
     elim c.if-i-rows.branch [
       | then-i-rows+in_ok-note w ↦
-          let noted : c.if-i-rows.directory ≡ insert_entry term_cmp spans x.0.term (record { from = from; to = i + 1 }) = search rules in
-          let done : IsRead rows (i + 1) (i + 1) (insert_entry term_cmp spans x.0.term (record { from = from; to = i + 1 })) =
+          let noted : c.if-i-rows.directory ≡ insert_entry (eq_by_cmp term_cmp) spans x.0.term (record { from = from; to = i + 1 }) = search rules in
+          let done : IsRead rows (i + 1) (i + 1) (insert_entry (eq_by_cmp term_cmp) spans x.0.term (record { from = from; to = i + 1 })) =
           elim w.then-i-rows.branch [
             | then-i-rows-via-then-i-rows v ↦ read_last rows from i spans x read v.if-i-rows.true c.index-rows-i.is
             | then-i-rows-via-else-i-rows+then-not-is_same v ↦

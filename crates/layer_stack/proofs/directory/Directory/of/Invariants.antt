@@ -1,4 +1,4 @@
-use Rattle.std.proofs.Common.{◌≡◌, ◌≤◌, ◌+◌, length, take}
+use Rattle.std.proofs.Common.{◌≡◌, ◌≤◌, length, take}
 use Rattle.layer_stack.specs.Spans.{retagged, IsSpans}
 use Rattle.layer_stack.proofs.Spanned.{IsRun, AreBefore}
 use Rattle.layer_stack.proofs.directory.Directory.of.Given as goal

@@ -1,4 +1,4 @@
-use Rattle.std.proofs.Common.{rules, ◌≡◌, ◌≤◌, length, Some, None, ap, ◌∙◌, sym, subst, [], refl}
+use Rattle.std.proofs.Common.{rules, arith, ◌≡◌, ◌<◌, ◌≤◌, length, Some, None, ap, ◌∙◌, sym, subst}
 use Rattle.uni_base.specs.Cursors.{IsRanked}
 use Rattle.layer_stack.specs.Postings.{deletes_of}
 use Rattle.layer_stack.specs.Spans.{span_of}
@@ -8,8 +8,8 @@ use Rattle.layer_stack.proofs.layer.Layer.deleted.Goals as goal
 pub part-requires : goal.part-requires
 part-requires c =
     let found : span_of c.args.term.now c.self.inside.deletes ≡ Some c.in-Some.span = search rules in
-    subst (λ ks. (c.in-Some.span.from ≤ c.in-Some.span.to) × (c.in-Some.span.to ≤ length ks)) (sym c.deref.ensures.value)
-    (found_holds (λ s. (s.from ≤ s.to) × (s.to ≤ length c.self.inside.deleted.items)) c.args.term.now c.self.inside.deletes c.in-Some.span c.self.invariant.1.told.within found)
+    let within = found_holds (λ s. (s.from < s.to) × (s.to ≤ length c.self.inside.deleted.items)) c.args.term.now c.self.inside.deletes c.in-Some.span c.self.invariant.1.told.within found in
+    subst (λ ks. (c.in-Some.span.from ≤ c.in-Some.span.to) × (c.in-Some.span.to ≤ length ks)) (sym c.deref.ensures.value) (omega (arith, within.0), within.1)
 
 pub returns-in-Some-clause-deleted : goal.returns-in-Some-clause-deleted
 returns-in-Some-clause-deleted c =

@@ -1,4 +1,4 @@
-use Rattle.std.proofs.Common.{rules, arith, ◌≡◌, ◌+◌, length, ap, ◌∙◌, sym}
+use Rattle.std.proofs.Common.{rules, arith, ◌≡◌, length, ap, ◌∙◌}
 use Rattle.layer_stack.specs.Postings.{entries_of}
 use Rattle.layer_stack.specs.Spans.{put_rows, delete_rows}
 use Rattle.layer_stack.proofs.Laid.{len-from_sorted}

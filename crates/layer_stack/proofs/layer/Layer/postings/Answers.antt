@@ -1,4 +1,4 @@
-use Rattle.std.proofs.Common.{rules, ◌≡◌, ◌≤◌, length, Some, None, ap, ◌∙◌, sym, subst, [], refl}
+use Rattle.std.proofs.Common.{rules, arith, ◌≡◌, ◌<◌, ◌≤◌, length, Some, None, ap, ◌∙◌, sym, subst, []}
 use Rattle.uni_base.specs.Cursors.{IsRanked}
 use Rattle.posting_lists.specs.Postings.{keys_of}
 use Rattle.layer_stack.specs.Postings.{postings_of}
@@ -9,7 +9,8 @@ use Rattle.layer_stack.proofs.layer.Layer.postings.Goals as goal
 pub section-requires-clause-within : goal.section-requires-clause-within
 section-requires-clause-within c =
     let found : span_of c.args.term.now c.self.inside.puts ≡ Some c.in-Some.span = search rules in
-    found_holds (λ s. (s.from ≤ s.to) × (s.to ≤ length c.self.inside.postings)) c.args.term.now c.self.inside.puts c.in-Some.span c.self.invariant.0.told.within found
+    let within = found_holds (λ s. (s.from < s.to) × (s.to ≤ length c.self.inside.postings)) c.args.term.now c.self.inside.puts c.in-Some.span c.self.invariant.0.told.within found in
+    (omega (arith, within.0), within.1)
 
 pub section-requires-clause-ranked : goal.section-requires-clause-ranked
 section-requires-clause-ranked c =

@@ -1,4 +1,4 @@
-use Rattle.std.proofs.Common.{rules, ◌≡◌, None, cond, true, false, ap, ◌∙◌, sym, map}
+use Rattle.std.proofs.Common.{◌≡◌, None, cond, true, false, ap, ◌∙◌, sym, map}
 use Rattle.std.specs.Option.{option_map}
 use Rattle.std.specs.List.{slice_get}
 use Rattle.std.specs.FinMap.Entries.{find}

@@ -1,5 +1,4 @@
-use Rattle.std.proofs.Common.{rules, ◌≡◌, cond, true, false, drop, ap, ◌∙◌, sym, filter}
-use Rattle.uni_base.specs.Cursors.{is_before}
+use Rattle.std.proofs.Common.{cond, drop, ap, ◌∙◌, sym}
 use Rattle.layer_stack.proofs.Heads.{pass_first}
 use Rattle.layer_stack.proofs.part.Part.pass.Goals as goal
 

@@ -1,15 +1,14 @@
-use Rattle.std.proofs.Common.{rules, arith, ◌≡◌, ◌+◌, ◌++◌, ◌∷◌, [], None, cond, true, ◌==◌, ◌&&◌, List, take, length, map, ap, ◌∙◌, sym, subst, Some}
+use Rattle.std.proofs.Common.{rules, arith, ◌≡◌, ◌++◌, ◌∷◌, [], None, cond, true, ◌==◌, ◌&&◌, take, length, map, ap, ◌∙◌, sym, subst}
 use Rattle.std.specs.FinMap as finite
 use Rattle.std.specs.FinMap.Entries.{find}
 use Rattle.std.proofs.lemmas.List.{take_all}
 use Rattle.uni_base.specs.RankOrder.{doc_cmp}
 use Rattle.uni_base.specs.KeySets.{has_key}
-use Rattle.uni_base.specs.declared.entity.DocKey.{DocKey}
 use Rattle.layer_base.specs.Lookups.{either}
 use Rattle.layer_base.specs.Layers.{stack_table}
 use Rattle.layer_stack.specs.Places.{place_cmp}
 use Rattle.layer_stack.specs.Postings.{place_of, postings_of, deletes_of}
-use Rattle.layer_stack.specs.Stacks.{PartValue, entry_of, part_table, remaining_of}
+use Rattle.layer_stack.specs.Stacks.{PartValue, entry_of, part_table}
 use Rattle.layer_stack.proofs.Terms.{get-layer, stack_more, parts_stand, part_pushed, part_skipped}
 use Rattle.layer_stack.proofs.stack.Stack.cursor.Goals as goal
 use Rattle.layer_stack.proofs.stack.Stack.cursor.Goals.{then-not-is_empty+in_ok-push, else-not-is_empty}

@@ -1,15 +1,14 @@
-use Rattle.std.proofs.Common.{rules, arith, ◌≡◌, ◌+◌, ◌++◌, ◌∷◌, [], None, not, cond, false, List, take, length, map, All, ap, ◌∙◌, sym, subst, slice_get, Some}
+use Rattle.std.proofs.Common.{rules, ◌≡◌, None, cond, false, take, map, All, ap, ◌∙◌, sym, subst}
 use Rattle.std.specs.FinMap as finite
 use Rattle.std.specs.FinMap.Entries.{find}
-use Rattle.std.proofs.lemmas.List.{take_all}
 use Rattle.uni_base.specs.Cursors.{is_before}
 use Rattle.uni_base.specs.RankOrder.{doc_cmp}
 use Rattle.uni_base.specs.KeySets.{has_key}
 use Rattle.layer_base.specs.Lookups.{either}
-use Rattle.layer_base.specs.Layers.{layer_over, stack_table}
+use Rattle.layer_base.specs.Layers.{stack_table}
 use Rattle.layer_stack.specs.Places.{place_cmp}
-use Rattle.layer_stack.specs.Postings.{PostingChanges, place_of, postings_of, deletes_of}
-use Rattle.layer_stack.specs.Stacks.{PartValue, entry_of, StandsFrom}
+use Rattle.layer_stack.specs.Postings.{place_of, postings_of, deletes_of}
+use Rattle.layer_stack.specs.Stacks.{entry_of, StandsFrom}
 use Rattle.layer_stack.proofs.Terms.{get-layer, stands_after, find_after, stack_more}
 use Rattle.layer_stack.proofs.stack.Stack.find.Goals as goal
 
