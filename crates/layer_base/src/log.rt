@@ -13,8 +13,8 @@ pub fn last_words<K: Ord + Copy, V: Drop>(mut log: Vec<(K, V)>) -> Result<Vec<(K
     ensures few { IfOk result (λ rows. length rows.items ≤ length log.items) }
 {
     log.reverse();
-    log.sort_by_key(|entry| entry.0)?;
-    log.dedup_by_key(|entry| entry.0);
+    log.sort_by(|one, other| one.0.cmp(&other.0))?;
+    log.dedup_by(|one, other| one.0 == other.0);
     Ok(log)
 }
 

@@ -66,10 +66,14 @@ impl Directory {
         Ok(())
     }
 
-    // Where the rows of a term stand. None exactly where it has none.
+    // Where the rows of a term stand. None exactly where it has none. Where there are no rows at
+    // all, as among the deletes of most layers, no hash is made.
     pub(crate) fn span(&self, term: &TermKey) -> Option<Span>
         ensures { result ≡ span_of term.now self.now }
     {
+        if self.spans.is_empty() {
+            return None;
+        }
         self.spans.get(term).copied()
     }
 

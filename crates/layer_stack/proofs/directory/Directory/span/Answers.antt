@@ -1,4 +1,4 @@
-use Rattle.std.proofs.Common.{arith, ℕ, ◌≡◌, ◌==◌, ◌&&◌, List, Some, cond, [], ◌∷◌, refl, ap, ◌∙◌, sym}
+use Rattle.std.proofs.Common.{rules, arith, length, None, ℕ, ◌≡◌, ◌==◌, ◌&&◌, List, Some, cond, [], ◌∷◌, refl, ap, ◌∙◌, sym}
 use Rattle.std.specs.Map.{lookup}
 use Rattle.std.proofs.lemmas.Bool.Decides.{nat_tests}
 use Rattle.std.specs.Ordering.{is_eq, eq_by_cmp, nat_cmp}
@@ -22,3 +22,12 @@ same_test t s = ap (λ b. b && eq_by_cmp key_cmp t.key s.key) (same_number t.typ
 
 pub returns : goal.returns
 returns c = c.copied.ensures ∙ c.get.ensures.value ∙ (λ i. lookup (λ s. same_test c.args.term.now s i) c.self.inside.spans.entries) ∙ same_look_up c.args.term.now c.self.inside.spans.entries ∙ ap (span_of c.args.term.now) c.self.view_is
+
+none_in : (t : TermKey) (spans : List (TermKey × Span)) → length spans ≡ 0 → None ≡ span_of t spans
+none_in t [] e = refl
+none_in t (s ∷ spans) e = absurd (omega arith)
+
+pub returns-then-is_empty : goal.returns-then-is_empty
+returns-then-is_empty c =
+    let empty : length c.self.inside.spans.entries ≡ 0 = search rules in
+    none_in c.args.term.now c.self.inside.spans.entries empty ∙ ap (span_of c.args.term.now) c.self.view_is
