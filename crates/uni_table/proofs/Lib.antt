@@ -1,0 +1,40 @@
+mod Additions
+mod Apart
+mod Compared
+mod DocKeys
+pub mod EndLaws
+mod Endings
+mod Entries
+pub mod Exact
+mod Filters
+mod Gathered
+pub mod Gone
+pub mod GraphAdded
+pub mod GraphCopied
+pub mod GraphEdges
+pub mod GraphEndings
+pub mod GraphEnds
+pub mod GraphEntities
+pub mod GraphGrown
+pub mod GraphLists
+pub mod GraphNames
+pub mod GraphPlaces
+pub mod GraphWalks
+mod InOrder
+mod Inserted
+pub mod Kept
+mod Keys
+mod Leaving
+pub mod Listed
+mod Permuted
+mod Placed
+mod RankedIn
+mod Reached
+mod ShardEdges
+pub mod Sharded
+mod Starts
+pub mod Steps
+mod Targets
+mod TargetsOf
+pub mod TouchLaws
+mod Touching

@@ -1,0 +1,14 @@
+pub mod Added
+pub mod Contents
+pub mod Example
+pub mod Commands
+pub mod GraphKeys
+pub mod GraphRows
+pub mod Journals
+pub mod Laws
+pub mod Lists
+pub mod Ranked
+pub mod Refusals
+pub mod Shards
+pub mod TableState
+pub mod Targets

@@ -1,0 +1,187 @@
+ghost use Rattle.std.specs.Prelude.{◌≡◌, ◌<◌, ◌==◌, ◌&&◌, not, length, map, filter, IfOk, OnOk, OnErr, IsPermutation};
+ghost use Rattle.uni_table.specs.Added.{Adds};
+
+mod edges;
+mod ends;
+mod entities;
+mod lists;
+mod numbers;
+mod rows;
+mod walks;
+
+use crate::{EdgeRow, EntityRow};
+use rows::Rows;
+use std::alloc::{AllocError, Global};
+use std::marker::Model;
+use uni_base::{DocKey, EdgeRef, EntityId, Held, Key};
+use uni_schema::Schema;
+
+/// Entities by id and edges by type, key and target, with the edges of each type and key, those that
+/// reach each id, and those that end. Contracts see both as ordered maps.
+#[derive(Drop)]
+pub(crate) struct Graph {
+    rows: Rows,
+}
+
+impl Model for Graph {
+    ghost use Rattle.uni_table.specs.Contents.{Contents};
+    ghost use Rattle.uni_table.specs.GraphRows.{contents_of, IsRows};
+
+    ghost Value = { Contents };
+
+    ghost view = { λ g. contents_of g.rows };
+
+    ghost invariant = { λ g. IsRows g.rows };
+}
+
+/// An edge with the number of the publish that ends it, by the number first.
+#[derive(Clone, Copy, Debug, PartialEq, Eq, PartialOrd, Ord)]
+pub(crate) struct Ending {
+    pub end: u64,
+    pub edge: EdgeRef,
+}
+
+impl Graph {
+    ghost use Rattle.uni_table.specs.Contents.{empty, entity_at, edge_at, count_from, starts_at, reaches, has_ended, with_entity, without_row, with_edge, without_edge, without_from, without_into, ended};
+    ghost use Rattle.uni_table.specs.Lists.{held_of, ending_of};
+    ghost use Rattle.uni_table.specs.Ranked.{doc_of, is_of_shard};
+
+    /// Nothing.
+    pub fn new(alloc: Global) -> Graph
+        ensures { result ≡ empty }
+    {
+        Graph {
+            rows: Rows::new(alloc),
+        }
+    }
+
+    /// The entity of an id. None where there is none.
+    pub fn entity(&self, id: EntityId) -> Option<EntityRow>
+        ensures { result ≡ entity_at self.now id }
+    {
+        self.rows.entity(id)
+    }
+
+    /// The row of an edge. None where there is none.
+    pub fn edge(&self, edge: &EdgeRef) -> Option<EdgeRow>
+        ensures { result ≡ edge_at self.now edge.now }
+    {
+        self.rows.edge(edge)
+    }
+
+    /// How many entities there are.
+    pub fn entities(&self) -> u64
+        ensures { result ≡ length self.now.entities }
+    {
+        self.rows.entity_count
+    }
+
+    /// How many edges there are.
+    pub fn edges(&self) -> u64
+        ensures { result ≡ length self.now.edges }
+    {
+        self.rows.edge_count
+    }
+
+    /// How many edges of a type and key there are.
+    pub fn count_from(&self, type_no: u16, key: &Key) -> u64
+        ensures { result ≡ count_from self.now type_no key.now }
+    {
+        self.rows.count_from(type_no, key)
+    }
+
+    /// Puts an entity, or another row in place of the one that it has.
+    pub fn put_entity(&mut self, id: EntityId, row: EntityRow) -> Result<(), AllocError>
+        ensures ok { OnOk result (self.new ≡ with_entity self.old id row) }
+        ensures err { OnErr result (self.new ≡ self.old) }
+    {
+        self.rows.put_entity(id, row)
+    }
+
+    /// Puts an edge, or another row in place of the one that it has.
+    pub fn put_edge(&mut self, edge: &EdgeRef, row: EdgeRow) -> Result<(), AllocError>
+        ensures ok { OnOk result (self.new ≡ with_edge self.old edge.now row) }
+        ensures err { OnErr result (self.new ≡ self.old) }
+    {
+        self.rows.put_edge(edge, &row)
+    }
+
+    /// Takes an entity out, and no edge.
+    pub fn remove_entity(&mut self, id: EntityId)
+        ensures { self.new ≡ without_row self.old id }
+    {
+        self.rows.remove_entity(id);
+    }
+
+    /// Takes an edge out.
+    pub fn remove_edge(&mut self, edge: &EdgeRef)
+        ensures { self.new ≡ without_edge self.old edge.now }
+    {
+        self.rows.remove_edge(edge);
+    }
+
+    /// Takes out the edges of a type and key.
+    pub fn remove_from(&mut self, type_no: u16, key: &Key)
+        ensures { self.new ≡ without_from self.old type_no key.now }
+    {
+        self.rows.remove_from(type_no, key);
+    }
+
+    /// Takes out the edges that reach an id.
+    pub fn remove_into(&mut self, id: EntityId)
+        ensures { self.new ≡ without_into self.old id }
+    {
+        self.rows.remove_into(id);
+    }
+
+    /// Takes out the edges that end at a publish or before it.
+    pub fn end(&mut self, publish: u64)
+        ensures { self.new ≡ ended self.old publish }
+    {
+        self.rows.end(publish);
+    }
+
+    /// Adds the edges of a type and key to a list, in some order.
+    pub fn add_from(&self, type_no: u16, key: &Key, held: &mut Vec<Held>) -> Result<(), AllocError>
+        ensures { OnOk result (Adds held.old.items held.new.items (map held_of (filter (λ e. starts_at type_no key.now e.0) self.now.edges))) }
+    {
+        self.rows.add_from(type_no, key, held)
+    }
+
+    /// Adds the edges that reach an id to a list, in some order.
+    pub fn add_into(&self, id: EntityId, held: &mut Vec<Held>) -> Result<(), AllocError>
+        ensures { OnOk result (Adds held.old.items held.new.items (map held_of (filter (λ e. reaches id e.0) self.now.edges))) }
+    {
+        self.rows.add_into(id, held)
+    }
+
+    /// The edges that end at a publish or before it, in some order.
+    pub fn ending(&self, alloc: Global, publish: u64) -> Result<Vec<Ending>, AllocError>
+        ensures { IfOk result (λ endings. IsPermutation (map ending_of (filter (λ e. has_ended publish e.1) self.now.edges)) endings.items) }
+    {
+        self.rows.ending(alloc, publish)
+    }
+
+    /// The entities of a shard of a vertical, in some order.
+    pub fn members(
+        &self,
+        alloc: Global,
+        schema: &Schema,
+        vertical: u16,
+        shard: u32,
+    ) -> Result<Vec<DocKey>, AllocError>
+        requires { vertical < length schema.now.verticals }
+        ensures { IfOk result (λ docs. IsPermutation (map doc_of (filter (is_of_shard schema.now vertical shard) self.now.entities)) docs.items) }
+    {
+        self.rows.members(alloc, schema, vertical, shard)
+    }
+
+    /// A copy of all rows.
+    pub fn copy(&self) -> Result<Graph, AllocError>
+        ensures { IfOk result (λ copy. copy ≡ self.now) }
+    {
+        Ok(Graph {
+            rows: self.rows.copy()?,
+        })
+    }
+}

@@ -1,0 +1,219 @@
+//! The rows of a graph, each map by number, and the numbers of edges and audiences.
+ghost use Rattle.std.specs.Prelude.{◌≡◌, ◌<◌, ◌^◌, true, None, Some, length, nat_eq, slice_get, IfOk, OnOk, OnErr};
+ghost use Rattle.std.specs.Map.{keys_of};
+ghost use Rattle.indexmap.specs.IndexMap.{IsUnique};
+ghost use Rattle.uni_table.specs.Contents.{empty};
+ghost use Rattle.uni_table.specs.GraphRows.{contents_of, audience_named, last_at, IsRows, IsQuiet, IsNumbered, IsStateOf, IsCircleKnown, IsPlaceOf, IsIndexOf, Grows};
+ghost use Rattle.uni_table.specs.GraphKeys.{source_eq};
+
+use super::numbers::{EdgeNo, Node, Side, Slot, SlotState, Source};
+use indexmap::IndexMap;
+use std::alloc::{AllocError, Global};
+use std::collections::BTreeSet;
+use std::hash::Hash;
+use uni_base::{Audience, EdgeRef, EntityId, Key};
+
+/// Ids, sources and edges, each numbered in the order in which they came. A row that is gone is marked,
+/// and stays.
+#[derive(Drop)]
+pub(crate) struct Rows {
+    pub ids: IndexMap<EntityId, Node>,
+    /// each type and key with the number of the last edge that starts there, gone or not, or 0
+    pub sources: IndexMap<Source, u32>,
+    pub edges: IndexMap<EdgeNo, Slot>,
+    /// ends with the numbers of edges: an entry counts while its edge lives and has that end
+    pub ends: BTreeSet<(u64, u32)>,
+    pub entity_count: u64,
+    pub edge_count: u64,
+}
+
+/// The greatest number of rows of a map.
+pub(super) const MAX_ROWS: usize = 4_294_967_295;
+
+/// The index of a key, which is added with a value where it is new.
+fn index_of<K: Eq + Hash + Copy, V: Drop>(
+    map: &mut IndexMap<K, V>,
+    key: K,
+    value: V,
+) -> Result<u32, AllocError>
+    requires few { length map.old.entries < 2 ^ 32 }
+    ensures grown { Grows map.old.entries map.new.entries key value }
+    ensures index { IfOk result (λ i. (k : K) × (slice_get (keys_of map.new.entries) i ≡ Some k) × (K.eq key k ≡ true)) }
+    ensures few { length map.new.entries < 2 ^ 32 }
+    ensures unique { IsUnique K.eq map.new }
+{
+    let index = map.len();
+    if let Some((known, _, _)) = map.get_full(&key) {
+        return Ok(known as u32);
+    }
+    if index >= MAX_ROWS {
+        return Err(AllocError);
+    }
+    map.insert(key, value)?;
+    Ok(index as u32)
+}
+
+impl Rows {
+    /// Nothing.
+    pub fn new(alloc: Global) -> Rows
+        ensures kept { IsRows result }
+        ensures empty { contents_of result ≡ empty }
+    {
+        Rows {
+            ids: IndexMap::new(alloc),
+            sources: IndexMap::new(alloc),
+            edges: IndexMap::new(alloc),
+            ends: BTreeSet::new(alloc),
+            entity_count: 0,
+            edge_count: 0,
+        }
+    }
+
+    // The number of a type and key.
+    fn source_no(&mut self, type_no: u16, key: Key) -> Result<u32, AllocError>
+        requires { IsRows self.old }
+        ensures quiet { IsQuiet self.old self.new }
+        ensures number { IfOk result (λ n. slice_get (keys_of self.new.sources.entries) n ≡ Some (record { type_no = type_no; key = key })) }
+    {
+        index_of(&mut self.sources, Source { type_no, key }, 0)
+    }
+
+    /// The number of an id.
+    pub fn id_no(&mut self, id: EntityId) -> Result<u32, AllocError>
+        requires { IsRows self.old }
+        ensures quiet { IsQuiet self.old self.new }
+        ensures number { IfOk result (λ n. slice_get (keys_of self.new.ids.entries) n ≡ Some id) }
+    {
+        let node = Node {
+            row: None,
+            last_edge: 0,
+        };
+        index_of(&mut self.ids, id, node)
+    }
+
+    /// The numbers of an edge.
+    pub fn edge_no(&mut self, edge: &EdgeRef) -> Result<EdgeNo, AllocError>
+        requires { IsRows self.old }
+        ensures quiet { IsQuiet self.old self.new }
+        ensures number { IfOk result (λ n. IsNumbered self.new n edge.now) }
+    {
+        let source = self.source_no(edge.type_no, edge.key)?;
+        let target = self.id_no(edge.target)?;
+        Ok(EdgeNo { source, target })
+    }
+
+    /// The state of an edge with an audience.
+    pub fn state_of(&mut self, audience: &Audience) -> Result<SlotState, AllocError>
+        requires { IsRows self.old }
+        ensures quiet { IsQuiet self.old self.new }
+        ensures state { IfOk result (λ state. IsStateOf self.new state audience.now) }
+    {
+        match audience {
+            Audience::Public => Ok(SlotState::Public),
+            Audience::Only => Ok(SlotState::Only),
+            Audience::Circle(type_no, key) => {
+                let source = self.source_no(*type_no, *key)?;
+                Ok(SlotState::Circle(source))
+            }
+        }
+    }
+
+    /// The audience that a state stands for. None where the edge is gone.
+    pub fn audience(&self, state: SlotState) -> Option<Audience>
+        requires { IsCircleKnown (length self.now.sources.entries) state }
+        ensures { result ≡ audience_named (keys_of self.now.sources.entries) state }
+    {
+        match state {
+            SlotState::Gone => None,
+            SlotState::Public => Some(Audience::Public),
+            SlotState::Only => Some(Audience::Only),
+            SlotState::Circle(n) => {
+                let (source, _) = self.sources.get_index(n as usize)?;
+                Some(Audience::Circle(source.type_no, source.key))
+            }
+        }
+    }
+
+    /// The index of a type and key. None where no edge ever started there.
+    pub fn source_index(&self, type_no: u16, key: &Key) -> Option<usize>
+        ensures { IsIndexOf source_eq (keys_of self.now.sources.entries) (record { type_no = type_no; key = key.now }) result }
+    {
+        let source = Source { type_no, key: *key };
+        match self.sources.get_full(&source) {
+            Some((index, _, _)) => Some(index),
+            None => None,
+        }
+    }
+
+    /// The index of an id. None where it never was an entity, and no edge ever led there.
+    pub fn id_index(&self, id: EntityId) -> Option<usize>
+        ensures { IsIndexOf nat_eq (keys_of self.now.ids.entries) id result }
+    {
+        match self.ids.get_full(&id) {
+            Some((index, _, _)) => Some(index),
+            None => None,
+        }
+    }
+
+    /// The index of an edge, gone or not. None where it never was there.
+    pub fn find(&self, edge: &EdgeRef) -> Option<usize>
+        requires { IsRows self.now }
+        ensures { IsPlaceOf self.now edge.now result }
+    {
+        let Some(source) = self.source_index(edge.type_no, &edge.key) else {
+            return None;
+        };
+        let Some(target) = self.id_index(edge.target) else {
+            return None;
+        };
+        let number = EdgeNo {
+            source: source as u32,
+            target: target as u32,
+        };
+        self.place(number, edge)
+    }
+
+    /// The index of the edge of two numbers, gone or not. None where it never was there.
+    pub fn place(&self, number: EdgeNo, edge: &EdgeRef) -> Option<usize>
+        requires kept { IsRows self.now }
+        requires number { IsNumbered self.now number edge.now }
+        ensures { IsPlaceOf self.now edge.now result }
+    {
+        match self.edges.get_full(&number) {
+            Some((index, _, _)) => Some(index),
+            None => None,
+        }
+    }
+
+    /// The number of the last edge with a number at an end, gone or not, or 0.
+    pub fn last(&self, side: Side, index: usize) -> u32
+        ensures { result ≡ last_at side self.now index }
+    {
+        match side {
+            Side::Target => match self.ids.get_index(index) {
+                Some((_, node)) => node.last_edge,
+                None => 0,
+            },
+            Side::Source => match self.sources.get_index(index) {
+                Some((_, last)) => *last,
+                None => 0,
+            },
+        }
+    }
+
+    /// A copy of all rows.
+    pub fn copy(&self) -> Result<Rows, AllocError>
+        requires { IsRows self.now }
+        ensures kept { IfOk result IsRows }
+        ensures same { IfOk result (λ copy. contents_of copy ≡ contents_of self.now) }
+    {
+        Ok(Rows {
+            ids: self.ids.clone()?,
+            sources: self.sources.clone()?,
+            edges: self.edges.clone()?,
+            ends: self.ends.clone()?,
+            entity_count: self.entity_count,
+            edge_count: self.edge_count,
+        })
+    }
+}

@@ -1,0 +1,16 @@
+//! The table of entities and edges that commands change, one by one, and that queries and shards are
+//! read off.
+#![tactic(auto)]
+
+mod command;
+pub mod examples;
+mod graph;
+pub mod laws;
+mod refusal;
+mod table;
+#[cfg(test)]
+mod tests;
+
+pub use command::{AudienceText, Command, EdgeRow, EntityRow};
+pub use refusal::FeedRefusal;
+pub use table::Table;
