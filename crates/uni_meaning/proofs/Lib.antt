@@ -1,0 +1,4 @@
+pub mod Begins
+pub mod Exact
+pub mod Firsts
+mod Members

@@ -1,0 +1,28 @@
+//! Laws about the definitions, each the contract of a function that does nothing.
+ghost use Rattle.uni_base.specs.declared.entity.DocKey.{DocKey};
+ghost use Rattle.uni_meaning.specs.Laws.{FirstIsFirst, LineagesAreExact, RepliesBegin, UnmarkedWalks};
+
+/// What is shown is the first lineage whose edges are all authorised; so something is shown exactly where
+/// there is one.
+#[tactic(auto, using(crate::proofs::Firsts::first_is_first))]
+pub fn first_is_first()
+    ensures { FirstIsFirst }
+{}
+
+/// The list of lineages has exactly the lineages.
+#[tactic(auto, using(crate::proofs::Exact::lineages_are_exact))]
+pub fn lineages_are_exact()
+    ensures { LineagesAreExact }
+{}
+
+/// A reply at a limit begins the reply at any greater one.
+#[tactic(auto, using(crate::proofs::Begins::replies_begin))]
+pub fn replies_begin()
+    ensures { RepliesBegin }
+{}
+
+/// `weak-and` without marks is `and`, and `strong-or` without weights is `or`.
+#[tactic(auto, using(crate::proofs::Begins::unmarked_walks))]
+pub fn unmarked_walks()
+    ensures { UnmarkedWalks DocKey }
+{}
