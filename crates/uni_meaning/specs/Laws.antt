@@ -1,15 +1,21 @@
 -- What follows from the definitions.
-use Rattle.std.specs.Prelude.{ℕ, ◌≡◌, ◌↔◌, ◌++◌, ◌+◌, Bool, true, false, if◌then◌else◌, List, ◌∷◌, Option, None, Some, filter}
+use Rattle.std.specs.Prelude.{ℕ, ◌≡◌, ◌↔◌, ◌++◌, ◌+◌, ◌-◌, nat_lt, Bool, true, false, ◌&&◌, ◌||◌, if◌then◌else◌, List, [], ◌∷◌, Option, None, Some, filter, map}
 use Rattle.std.specs.List.{Contains, list_all, list_any}
 use Rattle.uni_base.specs.Walks.{Quota, Unmarked, Count, Weight, Walker, weak_walk, strong_walk}
 use Rattle.uni_base.specs.declared.edge.EdgeRef.{EdgeRef}
+use Rattle.uni_base.specs.declared.edge.Key.TheVariants.{Word}
 use Rattle.uni_base.specs.declared.entity.DocKey.{DocKey}
-use Rattle.uni_schema.specs.Schema.{Declarations}
-use Rattle.uni_table.specs.Contents.{Contents}
-use Rattle.query_check.specs.Plan.{Plan}
+use Rattle.uni_schema.specs.Schema.{Declarations, shard_of}
+use Rattle.uni_table.specs.Contents.{Contents, has_edge}
+use Rattle.uni_table.specs.Ranked.{ranked}
+use Rattle.query_tree.specs.declared.kind.ListKind.TheVariants.{Or}
+use Rattle.query_tree.specs.declared.query.Mark.TheVariants.{Plain}
+use Rattle.query_check.specs.Plan.{Plan, Plans, term_plan, prefix_plan, list_plan, no_plans, with_plan}
 use Rattle.uni_meaning.specs.Firsts.{first_given, first_shown}
+use Rattle.uni_meaning.specs.Hits.{hits, target_of}
 use Rattle.uni_meaning.specs.Lineages.{IsLineage, lineages}
 use Rattle.uni_meaning.specs.Policy.{authorised}
+use Rattle.uni_meaning.specs.Prefixes.{prefix_keys}
 use Rattle.uni_meaning.specs.Replies.{reply_of}
 use Rattle.uni_meaning.specs.declared.reply.Hit.{Hit}
 
@@ -25,6 +31,10 @@ pub record FirstIsFirst : Type 0 where
 -- the list of lineages has exactly the lineages
 pub record LineagesAreExact : Type 0 where
   pub exact : (schema : Declarations) (table : Contents) (plan : Plan) (x : DocKey) (edges : List EdgeRef) → Contains (lineages schema table plan x) edges ↔ IsLineage schema table plan x edges
+
+-- every edge of a lineage is an edge of the table
+pub record LineagesStand : Type 0 where
+  pub stands : (schema : Declarations) (table : Contents) (plan : Plan) (x : DocKey) (edges : List EdgeRef) → IsLineage schema table plan x edges → list_all (has_edge table) edges ≡ true
 
 -- a reply at a limit begins the reply at any greater one
 pub record RepliesBegin : Type 0 where
@@ -44,3 +54,50 @@ pub record UnmarkedWalks (K : Type 0) : Type 0 where
       → weak_walk kept (first ∷ others) xs ≡ filter (λ x. list_all (λ o. o.has x) (first ∷ others)) xs
   pub strong : (operands : List (Walker K)) (kept : ℕ) (xs : List K) → list_all (λ o. is_unmarked o.quota) operands ≡ true
       → strong_walk kept operands xs ≡ filter (λ x. list_any (λ o. o.has x) operands) xs
+
+-- an operand of a walk that knows counts alone: how many entities may still be kept without it
+pub record Counted (K : Type 0) : Type 0 where
+  pub has : K → Bool
+  pub left : ℕ
+
+-- what a walk with counts alone keeps: an entity that some operand has, where the count of each operand
+-- that lacks it is above 0; those counts are one lower then
+abbrev pub count_walk : {K : Type 0} → List (Counted K) → List K → List K
+count_walk operands [] = []
+count_walk operands (x ∷ xs) = elim (list_any (λ o. o.has x) operands && list_all (λ o. o.has x || nat_lt 0 o.left) operands) [
+  | true ↦ x ∷ count_walk (map (λ o. if o.has x then o else record o { left = o.left - 1 }) operands) xs
+  | false ↦ count_walk operands xs
+]
+
+-- an operand's count: none is 0
+abbrev pub left_of : Quota → ℕ
+left_of Unmarked = 0
+left_of (Count left) = left
+left_of (Weight n d) = 0
+
+abbrev pub counted : {K : Type 0} → Walker K → Counted K
+counted o = record { has = o.has; left = left_of o.quota }
+
+-- whether an operand has no weight
+abbrev pub is_light : Quota → Bool
+is_light Unmarked = true
+is_light (Count left) = true
+is_light (Weight n d) = false
+
+-- for operands without a weight the weak walk is the one with counts alone, whatever was kept before
+pub record LightWalk (K : Type 0) : Type 0 where
+  pub light : (operands : List (Walker K)) (kept : ℕ) (xs : List K) → list_all (λ o. is_light o.quota) operands ≡ true → weak_walk kept operands xs ≡ count_walk (map counted operands) xs
+
+-- the terms of words, as the operands of an operator
+abbrev pub terms_of : ℕ → List (List ℕ) → Plans
+terms_of number [] = no_plans
+terms_of number (word ∷ words) = with_plan (term_plan number (Word word)) Plain (terms_of number words)
+
+-- a prefix term is the `or` of the terms of its keys: without a key it finds nothing, with some it finds the
+-- same entities, and each entity of the vertical by the same lineages in the same order
+pub record PrefixIsOr : Type 0 where
+  pub nothing : (schema : Declarations) (table : Contents) (number shard : ℕ) (from : List ℕ) → prefix_keys table number from ≡ [] → hits schema table (prefix_plan number from) shard ≡ []
+  pub found : (schema : Declarations) (table : Contents) (number shard : ℕ) (from first : List ℕ) (others : List (List ℕ)) → prefix_keys table number from ≡ first ∷ others
+      → hits schema table (prefix_plan number from) shard ≡ hits schema table (list_plan Or (terms_of number (first ∷ others))) shard
+  pub by_lineages : (schema : Declarations) (table : Contents) (number : ℕ) (from : List ℕ) (x : DocKey) → Contains (ranked schema table (target_of schema number) (shard_of schema (target_of schema number) x.id)) x
+      → lineages schema table (prefix_plan number from) x ≡ lineages schema table (list_plan Or (terms_of number (prefix_keys table number from))) x

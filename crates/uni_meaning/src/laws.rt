@@ -1,6 +1,6 @@
 //! Laws about the definitions, each the contract of a function that does nothing.
 ghost use Rattle.uni_base.specs.declared.entity.DocKey.{DocKey};
-ghost use Rattle.uni_meaning.specs.Laws.{FirstIsFirst, LineagesAreExact, RepliesBegin, UnmarkedWalks};
+ghost use Rattle.uni_meaning.specs.Laws.{FirstIsFirst, LightWalk, LineagesAreExact, LineagesStand, PrefixIsOr, RepliesBegin, UnmarkedWalks};
 
 /// What is shown is the first lineage whose edges are all authorised; so something is shown exactly where
 /// there is one.
@@ -15,6 +15,12 @@ pub fn lineages_are_exact()
     ensures { LineagesAreExact }
 {}
 
+/// Every edge of a lineage is an edge of the table.
+#[tactic(auto, using(crate::proofs::Stands::lineages_stand))]
+pub fn lineages_stand()
+    ensures { LineagesStand }
+{}
+
 /// A reply at a limit begins the reply at any greater one.
 #[tactic(auto, using(crate::proofs::Begins::replies_begin))]
 pub fn replies_begin()
@@ -25,4 +31,16 @@ pub fn replies_begin()
 #[tactic(auto, using(crate::proofs::Begins::unmarked_walks))]
 pub fn unmarked_walks()
     ensures { UnmarkedWalks DocKey }
+{}
+
+/// A prefix term is the `or` of the terms of its keys.
+#[tactic(auto, using(crate::proofs::Prefixed::prefix_is_or))]
+pub fn prefix_is_or()
+    ensures { PrefixIsOr }
+{}
+
+/// For operands without a weight `weak-and` goes by counts alone, whatever was kept before.
+#[tactic(auto, using(crate::proofs::Light::light_walk))]
+pub fn light_walk()
+    ensures { LightWalk DocKey }
 {}
