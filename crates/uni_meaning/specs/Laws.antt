@@ -1,7 +1,7 @@
 -- What follows from the definitions.
-use Rattle.std.specs.Prelude.{ℕ, ◌≡◌, ◌↔◌, ◌++◌, ◌+◌, ◌-◌, nat_lt, Bool, true, false, ◌&&◌, ◌||◌, if◌then◌else◌, List, [], ◌∷◌, Option, None, Some, filter, map}
+use Rattle.std.specs.Prelude.{ℕ, ◌≡◌, ◌↔◌, ◌++◌, ◌+◌, ◌-◌, nat_lt, Bool, true, false, ◌&&◌, ◌||◌, if◌then◌else◌, List, [], ◌∷◌, Option, None, Some, map}
 use Rattle.std.specs.List.{Contains, list_all, list_any}
-use Rattle.uni_base.specs.Walks.{Quota, Unmarked, Count, Weight, Walker, weak_walk, strong_walk}
+use Rattle.uni_base.specs.Walks.{Quota, Unmarked, Count, Weight, Walker, weak_walk}
 use Rattle.uni_base.specs.declared.edge.EdgeRef.{EdgeRef}
 use Rattle.uni_base.specs.declared.edge.Key.TheVariants.{Word}
 use Rattle.uni_base.specs.declared.entity.DocKey.{DocKey}
@@ -40,20 +40,6 @@ pub record LineagesStand : Type 0 where
 pub record RepliesBegin : Type 0 where
   pub begins : (schema : Declarations) (table : Contents) (publishes : ℕ) (plan : Plan) (viewer limit more : ℕ)
       → (rest : List Hit) × ((reply_of schema table publishes plan viewer (limit + more)).hits ≡ (reply_of schema table publishes plan viewer limit).hits ++ rest)
-
--- whether an operand has no mark
-abbrev pub is_unmarked : Quota → Bool
-is_unmarked Unmarked = true
-is_unmarked (Count left) = false
-is_unmarked (Weight n d) = false
-
--- without marks the weak walk keeps what all operands have, where there is one, and the strong walk what
--- some operand has
-pub record UnmarkedWalks (K : Type 0) : Type 0 where
-  pub weak : (first : Walker K) (others : List (Walker K)) (kept : ℕ) (xs : List K) → list_all (λ o. is_unmarked o.quota) (first ∷ others) ≡ true
-      → weak_walk kept (first ∷ others) xs ≡ filter (λ x. list_all (λ o. o.has x) (first ∷ others)) xs
-  pub strong : (operands : List (Walker K)) (kept : ℕ) (xs : List K) → list_all (λ o. is_unmarked o.quota) operands ≡ true
-      → strong_walk kept operands xs ≡ filter (λ x. list_any (λ o. o.has x) operands) xs
 
 -- an operand of a walk that knows counts alone: how many entities may still be kept without it
 pub record Counted (K : Type 0) : Type 0 where

@@ -1,6 +1,6 @@
 //! Laws about the definitions, each the contract of a function that does nothing.
 ghost use Rattle.uni_base.specs.declared.entity.DocKey.{DocKey};
-ghost use Rattle.uni_meaning.specs.Laws.{FirstIsFirst, LightWalk, LineagesAreExact, LineagesStand, PrefixIsOr, RepliesBegin, UnmarkedWalks};
+ghost use Rattle.uni_meaning.specs.Laws.{FirstIsFirst, LightWalk, LineagesAreExact, LineagesStand, PrefixIsOr, RepliesBegin};
 
 /// What is shown is the first lineage whose edges are all authorised; so something is shown exactly where
 /// there is one.
@@ -25,12 +25,6 @@ pub fn lineages_stand()
 #[tactic(auto, using(crate::proofs::Begins::replies_begin))]
 pub fn replies_begin()
     ensures { RepliesBegin }
-{}
-
-/// `weak-and` without marks is `and`, and `strong-or` without weights is `or`.
-#[tactic(auto, using(crate::proofs::Begins::unmarked_walks))]
-pub fn unmarked_walks()
-    ensures { UnmarkedWalks DocKey }
 {}
 
 /// A prefix term is the `or` of the terms of its keys.
