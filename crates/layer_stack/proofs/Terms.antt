@@ -3,20 +3,22 @@ use Rattle.std.proofs.Common.{◌≡◌, ℕ, Bool, true, false, cond, not, ◌=
 use Rattle.std.specs.Prelude.{T}
 use Rattle.std.specs.FinMap as finite
 use Rattle.std.specs.FinMap.Entries.{find, is_sorted, below_all}
-use Rattle.std.specs.Ordering.{is_eq, eq_by_cmp}
+use Rattle.std.specs.declared.cmp.Ordering.{Ordering}
+use Rattle.std.specs.declared.cmp.Ordering.TheVariants.{Less, Equal, Greater}
+use Rattle.std.specs.Ordering.{is_eq, is_lt, eq_by_cmp}
 use Rattle.std.proofs.lemmas.Bool.{eqb-true}
 use Rattle.std.proofs.lemmas.List.{take_more, map-append}
-use Rattle.std.proofs.lemmas.List.Elements.{All-nil, All-cons}
+use Rattle.std.proofs.lemmas.List.Elements.{All-nil, All-cons, All-head, All-tail}
 use Rattle.std.proofs.lemmas.Option.{get_or_from_slice_get, slice_get_within}
 use Rattle.std.specs.List.{slice_get}
 use Rattle.uni_base.specs.declared.edge.Audience.{Audience}
 use Rattle.uni_base.specs.declared.entity.DocKey.{DocKey}
-use Rattle.uni_base.specs.Cursors.{is_before}
+use Rattle.uni_base.specs.Cursors.{is_before, is_less, IsRanked}
 use Rattle.uni_base.specs.RankOrder.{doc_cmp}
 use Rattle.uni_base.specs.KeySets.{has_key}
 use Rattle.uni_base.proofs.RankedLemmas.{is_eq_swap, is_before_self}
 use Rattle.posting_lists.specs.declared.posting.Posting.{Posting}
-use Rattle.posting_lists.specs.Postings.{postings_from}
+use Rattle.posting_lists.specs.Postings.{keys_of, postings_from}
 use Rattle.layer_base.specs.Lookups.{either}
 use Rattle.layer_base.specs.Layers.{layer_over, stack_table}
 use Rattle.layer_base.proofs.Tables.{get-layer_over, stack_over-append}
@@ -129,3 +131,38 @@ part_skipped (d ∷ ds) ps k older e = let none : length (d ∷ ds) ≡ 0 = eqb-
     and_first : (a b : Bool) → (a && b) ≡ true → a ≡ true
     and_first true b h = refl
     and_first false b h = cc
+
+-- ---- one layer alone
+
+less_lt : (o : Ordering) → is_less o ≡ true → T (is_lt o)
+less_lt Less e = tt
+less_lt Equal e = cc
+less_lt Greater e = cc
+
+below_entries : (k : DocKey) (ps : List Posting) → All (λ x. is_before k x ≡ true) (keys_of ps) → T (below_all doc_cmp k (map entry_of ps))
+below_entries k [] all = tt
+below_entries k (p ∷ ps) all =
+    both _ _ (less_lt (doc_cmp k p.key) (All-head (λ (x : DocKey). is_before k x ≡ true) p.key (keys_of ps) all)) (below_entries k ps (All-tail (λ (x : DocKey). is_before k x ≡ true) p.key (keys_of ps) all))
+
+ranked_entries : (ps : List Posting) → IsRanked (keys_of ps) → T (is_sorted doc_cmp (map entry_of ps))
+ranked_entries [] ranked = tt
+ranked_entries (p ∷ ps) ranked = both _ _ (below_entries p.key ps ranked.0) (ranked_entries ps ranked.1)
+
+postings_of_entries : (ps : List Posting) → map posting_at (map entry_of ps) ≡ ps
+postings_of_entries [] = refl
+postings_of_entries (p ∷ ps) = ap (λ qs. p ∷ qs) (postings_of_entries ps)
+
+-- where one layer alone has the term, its postings are what is read
+pub one_part : (part : PartValue) → IsRanked (keys_of part.1) → remaining_of (part ∷ []) ≡ part.1
+one_part part ranked =
+    ap (map posting_at) (sym (same_by_get (map entry_of part.1) (part_table (part ∷ [])) (ranked_entries part.1 ranked) alike)) ∙ postings_of_entries part.1
+  where
+    over_nothing : (said : Option Audience) (b : Bool) → either said (cond b None None) ≡ said
+    over_nothing None true = refl
+    over_nothing None false = refl
+    over_nothing (Some a) b = refl
+
+    alike : (k : DocKey) → find doc_cmp k (map entry_of part.1) ≡ finite.get (part_table (part ∷ [])) k
+    alike k =
+        sym (part_pushed [] part k ∙ ap (λ (older : Option Audience). either (find doc_cmp k (map entry_of part.1)) (cond (has_key part.0 k) None older)) (finite.get-empty doc_cmp k)
+        ∙ over_nothing (find doc_cmp k (map entry_of part.1)) (has_key part.0 k))

@@ -4,3 +4,4 @@ pub mod Postings
 pub mod Spans
 pub mod Stacks
 pub mod Words
+pub mod Sources

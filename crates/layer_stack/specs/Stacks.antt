@@ -1,6 +1,6 @@
 -- What a stack has under one term: the deleted keys and the postings of each layer that has the
 -- term, the oldest first.
-use Rattle.std.specs.Prelude.{◌≡◌, Bool, false, Option, None, Some, List, [], ◌∷◌, map, filter, All, cond}
+use Rattle.std.specs.Prelude.{◌≡◌, Bool, false, Option, None, Some, List, [], ◌∷◌, ◌++◌, map, filter, All, cond}
 use Rattle.std.specs.List.{slice_get}
 use Rattle.std.specs.Ordering.{is_eq}
 use Rattle.std.specs.FinMap as finite
@@ -15,6 +15,11 @@ use Rattle.layer_base.specs.Layers.{Changes, stack_table}
 -- what one layer has under the term: the keys that it deletes, and the postings that it puts
 abbrev pub PartValue : Type 0
 PartValue = List DocKey × List Posting
+
+-- what older layers have, and then the newest, if there is one
+abbrev pub and_newest : List PartValue → Option PartValue → List PartValue
+and_newest older None = older
+and_newest older (Some newest) = older ++ newest ∷ []
 
 -- a posting as an entry at its key
 abbrev pub entry_of : Posting → DocKey × Audience

@@ -8,7 +8,9 @@ mod directory;
 mod layer;
 mod logged;
 mod merge;
+mod merging;
 mod part;
+mod parts;
 mod place;
 mod stack;
 #[cfg(test)]

@@ -44,6 +44,15 @@ impl<'a> Part<'a> {
         self.deletes.is_empty() && self.puts.peek().is_none()
     }
 
+    // Its postings alone.
+    pub(crate) fn into_list(self) -> ListCursor<'a>
+        ensures list { result ≡ self.entry.1 }
+        ensures ranked { IsRanked (keys_of self.entry.1) }
+    {
+        let _ranked = self.puts.peek();
+        self.puts
+    }
+
     // The key of the first posting.
     pub(crate) fn head(&self) -> Option<DocKey>
         ensures head { result ≡ head_of self.now }

@@ -5,6 +5,7 @@ ghost use Rattle.layer_base.specs.Layers.{stack_table};
 ghost use Rattle.layer_stack.specs.Postings.{postings_of, place_of};
 
 use crate::part::Part;
+use crate::parts::Parts;
 use crate::{Layer, StackCursor, TermKey};
 use layer_base::SharedLayers;
 use std::alloc::{AllocError, Global};
@@ -78,7 +79,7 @@ impl Stack {
     pub fn cursor(&self, alloc: Global, term: &TermKey) -> Result<StackCursor<'_>, AllocError>
         ensures { IfOk result (λ cursor. cursor ≡ postings_of term.now (stack_table self.now.0)) }
     {
-        let mut parts = Vec::new(alloc);
+        let mut parts = Parts::new(alloc);
         for i in 0..self.layers() {
             let layer = self.layer(i);
             let part = Part::new(layer.deleted(term), layer.postings(term));
@@ -86,7 +87,7 @@ impl Stack {
                 parts.push(part)?;
             }
         }
-        Ok(StackCursor::over(parts))
+        StackCursor::over(parts)
     }
 
     /// The audience of the posting of a term at a key. None exactly where the table has none.

@@ -134,6 +134,64 @@ fn stacks_are_read_like_a_table(rt: HostRuntime) -> Result<(), Fail> {
     Ok(())
 }
 
+// A layer that puts postings of the term of some number at some keys, or deletes them.
+fn one_term_layer(alloc: Global, n: u64, keys: &[u64], is_put: bool) -> Result<Layer, Fail> {
+    let mut delta = Delta::new(alloc);
+    for k in keys {
+        let key = key(*k)?;
+        if is_put {
+            let audience = Audience::Public;
+            delta.put(term(n)?, Posting { key, audience })?;
+        } else {
+            delta.delete(term(n)?, key)?;
+        }
+    }
+    Ok(Layer::build(alloc, delta)?)
+}
+
+// A stack whose first layers put and delete at the keys of one term, and whose newest has another
+// term alone.
+fn emptied_stack(alloc: Global, puts: &[u64], deletes: &[&[u64]]) -> Result<Stack, Fail> {
+    let base = one_term_layer(alloc, 1, puts, true)?;
+    let mut stack = Stack::of(alloc, Arc::new(alloc, base)?)?.roomy(deletes.len() + 1)?;
+    for keys in deletes {
+        let layer = one_term_layer(alloc, 1, keys, false)?;
+        stack.push_reserved(Arc::new(alloc, layer)?);
+    }
+    let other = one_term_layer(alloc, 0, &[4], true)?;
+    stack.push_reserved(Arc::new(alloc, other)?);
+    Ok(stack)
+}
+
+// A term that only an older layer puts, and all whose postings newer layers delete: in one layer,
+// in two that each delete a part, and, with one posting left, in part.
+#[test]
+fn all_postings_of_an_older_layer_are_deleted(rt: HostRuntime) -> Result<(), Fail> {
+    let alloc = rt.alloc();
+    let whole: &[&[u64]] = &[&[1, 2, 3]];
+    let halves: &[&[u64]] = &[&[1, 3], &[2, 7]];
+    let a_part: &[&[u64]] = &[&[1], &[3]];
+    for deletes in [whole, halves] {
+        let stack = emptied_stack(alloc, &[1, 2, 3], deletes)?;
+        let mut cursor = stack.cursor(alloc, &term(1)?)?;
+        assert_eq!(rt; cursor.peek(), None);
+        assert_eq!(rt; cursor.posting(), None);
+        cursor.step();
+        cursor.seek(key(0)?);
+        assert_eq!(rt; cursor.peek(), None);
+        for k in 0..5 {
+            assert_eq!(rt; stack.find(&term(1)?, key(k)?), None, "at {k}");
+        }
+        assert_eq!(rt; stack.cursor(alloc, &term(0)?)?.peek(), Some(key(4)?));
+    }
+    let stack = emptied_stack(alloc, &[1, 2, 3], a_part)?;
+    let mut cursor = stack.cursor(alloc, &term(1)?)?;
+    assert_eq!(rt; cursor.peek(), Some(key(2)?));
+    cursor.seek(key(3)?);
+    assert_eq!(rt; cursor.peek(), None);
+    Ok(())
+}
+
 // A layer that puts under words at the ends of the byte order, deletes under one, and has other
 // terms beside them.
 fn worded_layer(alloc: Global) -> Result<Layer, Fail> {

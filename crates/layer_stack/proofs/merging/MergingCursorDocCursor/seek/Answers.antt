@@ -3,7 +3,7 @@ use Rattle.std.proofs.lemmas.List.{with_items_is}
 use Rattle.posting_lists.specs.Postings.{keys_of, postings_from}
 use Rattle.posting_lists.proofs.Sections.{keys_of-postings_from}
 use Rattle.layer_stack.specs.Stacks.{remaining_of}
-use Rattle.layer_stack.proofs.cursor.StackCursorDocCursor.seek.Goals as goal
+use Rattle.layer_stack.proofs.merging.MergingCursorDocCursor.seek.Goals as goal
 
 pub returns-clause-postings : goal.returns-clause-postings
 returns-clause-postings c =

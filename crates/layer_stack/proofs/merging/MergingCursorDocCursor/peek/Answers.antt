@@ -5,7 +5,7 @@ use Rattle.uni_base.specs.Cursors.{IsRanked}
 use Rattle.posting_lists.specs.declared.posting.Posting.{Posting}
 use Rattle.posting_lists.specs.Postings.{keys_of}
 use Rattle.layer_stack.proofs.Merged.{remaining_ranked}
-use Rattle.layer_stack.proofs.cursor.StackCursorDocCursor.peek.Goals as goal
+use Rattle.layer_stack.proofs.merging.MergingCursorDocCursor.peek.Goals as goal
 
 pub returns-in_err-key-clause-ranked : goal.returns-in_err-key-clause-ranked
 returns-in_err-key-clause-ranked c = subst (λ ps. IsRanked (keys_of ps)) c.self.view_is (remaining_ranked c.self.inside.parts.items)

@@ -7,7 +7,7 @@ use Rattle.posting_lists.specs.Postings.{keys_of}
 use Rattle.layer_stack.specs.Stacks.{remaining_of}
 use Rattle.layer_stack.proofs.Merged.{remaining_ranked}
 use Rattle.layer_stack.proofs.Heads.{after_first}
-use Rattle.layer_stack.proofs.cursor.StackCursorDocCursor.step.Goals as goal
+use Rattle.layer_stack.proofs.merging.MergingCursorDocCursor.step.Goals as goal
 
 empty_from : (ps : List Posting) → None ≡ slice_get ps 0 → ps ≡ []
 empty_from [] e = refl

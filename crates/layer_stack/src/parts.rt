@@ -1,0 +1,43 @@
+ghost use Rattle.std.specs.Prelude.{◌≡◌, ◌++◌, ◌∷◌, [], OnOk};
+
+use crate::part::Part;
+use std::alloc::{AllocError, Global};
+use std::marker::Model;
+
+/// What layers have under a term, the oldest first. The newest lies apart, so that one layer alone
+/// takes no memory.
+#[derive(Drop)]
+pub(crate) struct Parts<'a> {
+    pub(crate) older: Vec<Part<'a>>,
+    pub(crate) newest: Option<Part<'a>>,
+}
+
+impl<'a> Model for Parts<'a> {
+    ghost use Rattle.std.specs.Prelude.{List};
+    ghost use Rattle.layer_stack.specs.Stacks.{PartValue, and_newest};
+
+    ghost Value = { List PartValue };
+
+    ghost view = { λ p. and_newest p.older.items p.newest };
+}
+
+impl<'a> Parts<'a> {
+    pub(crate) fn new(alloc: Global) -> Parts<'a>
+        ensures { result ≡ [] }
+    {
+        Parts {
+            older: Vec::new(alloc),
+            newest: None,
+        }
+    }
+
+    // Adds what a newer layer has.
+    pub(crate) fn push(&mut self, part: Part<'a>) -> Result<(), AllocError>
+        ensures { OnOk result (self.new ≡ self.old ++ part.entry ∷ []) }
+    {
+        if let Some(newest) = self.newest.replace(part) {
+            self.older.push(newest)?;
+        }
+        Ok(())
+    }
+}
