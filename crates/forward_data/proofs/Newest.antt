@@ -1,5 +1,6 @@
 -- The records of a stack, one layer after another.
 use Rattle.std.proofs.Common.{◌≡◌, ℕ, ◌+◌, Bool, true, false, cond, List, [], ◌∷◌, ◌++◌, map, take, drop, Option, None, Some, refl, sym, ◌∙◌, ap, subst}
+use Rattle.std.specs.Cmp.{Equal-is}
 use Rattle.std.specs.Prelude.{T}
 use Rattle.std.specs.List.{slice_get}
 use Rattle.std.specs.Option.{unwrap_or}
@@ -10,7 +11,7 @@ use Rattle.std.proofs.lemmas.List.{take_more, take-append-drop}
 use Rattle.std.proofs.lemmas.Option.{get_or_from_slice_get, slice_get_within}
 use Rattle.layer_base.specs.Changes.{after, set_at}
 use Rattle.layer_base.proofs.Changes.{get-set_at}
-use Rattle.layer_base.proofs.Sorted.{first, second, equal_from, find_below}
+use Rattle.layer_base.proofs.Sorted.{first, second, find_below}
 use Rattle.forward_data.specs.declared.record.ForwardItem.{ForwardItem}
 use Rattle.forward_data.specs.declared.record.RecordKey.{RecordKey}
 use Rattle.forward_data.specs.Records.{Records, record_cmp, left_by, replacing, records_over, records_from, records_of, record_of, AreFull}
@@ -28,7 +29,7 @@ get-after (e ∷ es) records q sorted =
   where
     by : (b : Bool) → eq_by_cmp record_cmp q e.0 ≡ b → under (find record_cmp q es) (cond b (left_by e.1) (finite.get records q)) ≡ under (cond b (Some e.1) (find record_cmp q es)) (finite.get records q)
     by true t =
-        let is : q ≡ e.0 = record_apart q e.0 (equal_from (record_cmp q e.0) t) in
+        let is : q ≡ e.0 = record_apart q e.0 ((Equal-is (record_cmp q e.0)).0 t) in
         ap (λ f. under f (left_by e.1)) (find_below record_cmp q es (subst (λ (k : RecordKey). T (below_all record_cmp k es)) (sym is) (first _ _ sorted)))
     by false t = refl
 

@@ -1,5 +1,6 @@
 -- Tables after changes one after another, by their look-ups.
 use Rattle.std.proofs.Common.{◌≡◌, Bool, true, false, cond, List, [], ◌∷◌, ◌++◌, map, reverse, Option, None, Some, refl, sym, ◌∙◌, ap, subst, is_some}
+use Rattle.std.specs.Cmp.{Equal-is}
 use Rattle.std.proofs.lemmas.List.{reverse-append}
 use Rattle.std.specs.Prelude.{T}
 use Rattle.std.specs.Cmp.{IsTotalOrder}
@@ -10,7 +11,7 @@ use Rattle.std.specs.FinMap.Entries.{find, is_sorted, below_all, same_entries}
 use Rattle.layer_base.specs.Lookups.{either}
 use Rattle.layer_base.specs.Layers.{TellsApart, Changes, from_log, layer_over}
 use Rattle.layer_base.specs.Changes.{set_at, after, deleted, put, in_turn}
-use Rattle.layer_base.proofs.Sorted.{both, first, second, find_below, equal_from}
+use Rattle.layer_base.proofs.Sorted.{both, first, second, find_below}
 use Rattle.layer_base.proofs.Tables.{get-layer_over}
 
 -- the answer that a last change gives, or else the older one
@@ -36,7 +37,7 @@ kept-append {K} {X} (c ∷ cs) ds =
       | Some x ↦ ap (λ rows. (c.0, x) ∷ rows) (kept-append cs ds)
     ]
 
-find-append : {K X : Type 0} (R : K → K → Ordering) (q : K) (xs ys : List (K × X)) → find R q (xs ++ ys) ≡ either (find R q xs) (find R q ys)
+pub find-append : {K X : Type 0} (R : K → K → Ordering) (q : K) (xs ys : List (K × X)) → find R q (xs ++ ys) ≡ either (find R q xs) (find R q ys)
 find-append R q [] ys = refl
 find-append R q (x ∷ xs) ys =
     elim (eq_by_cmp R q x.0) as (λ b. cond b (Some x.1) (find R q (xs ++ ys)) ≡ either (cond b (Some x.1) (find R q xs)) (find R q ys)) [
@@ -86,7 +87,7 @@ module _ {K X : Type 0} {R : K → K → Ordering} (o : IsTotalOrder R) where
       where
         by : (v : Option X) (b : Bool) → eq_by_cmp R q e.0 ≡ b → find R q (kept es) ≡ said (find R q es) None → find R q (kept_first e.0 v (kept es)) ≡ said (cond b (Some v) (find R q es)) None
         by None true t rest =
-            let is : q ≡ e.0 = apart q e.0 (equal_from (R q e.0) t) in
+            let is : q ≡ e.0 = apart q e.0 ((Equal-is (R q e.0)).0 t) in
             rest ∙ ap (λ f. said f None) (find_below R q es (subst (λ (k : K). T (below_all R k es)) (sym is) (first _ _ sorted)))
         by None false t rest = rest
         by (Some x) true t rest = ap (λ b. cond b (Some x) (find R q (kept es))) t
@@ -111,7 +112,7 @@ module _ {K X : Type 0} {R : K → K → Ordering} (o : IsTotalOrder R) where
       where
         by : (b : Bool) → eq_by_cmp R q e.0 ≡ b → either (find R q es) (cond b (Some e.1) (finite.get table q)) ≡ either (cond b (Some e.1) (find R q es)) (finite.get table q)
         by true t =
-            let is : q ≡ e.0 = apart q e.0 (equal_from (R q e.0) t) in
+            let is : q ≡ e.0 = apart q e.0 ((Equal-is (R q e.0)).0 t) in
             ap (λ f. either f (Some e.1)) (find_below R q es (subst (λ (k : K). T (below_all R k es)) (sym is) (first _ _ sorted)))
         by false t = refl
 

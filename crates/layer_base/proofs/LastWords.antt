@@ -1,5 +1,6 @@
 -- A log that is turned round, sorted by its keys, and of which the first of each run is kept.
 use Rattle.std.proofs.Common.{◌≡◌, ℕ, suc, ◌+◌, Bool, true, false, cond, not, ◌&&◌, List, [], ◌∷◌, length, get_or, reverse, Option, None, Some, refl, sym, ◌∙◌, ap, subst, arith, filter}
+use Rattle.std.specs.Cmp.{Equal-is}
 use Rattle.std.specs.Prelude.{T}
 use Rattle.std.specs.Cmp.{IsTotalOrder}
 use Rattle.std.specs.declared.cmp.Ordering.{Ordering}
@@ -10,7 +11,7 @@ use Rattle.std.specs.List.Sorted.{IsSortedByKey, ties}
 use Rattle.std.specs.FinMap as map
 use Rattle.std.specs.FinMap.Entries.{find, is_sorted, below_all, same_entries}
 use Rattle.layer_base.specs.Layers.{from_log, TellsApart}
-use Rattle.layer_base.proofs.Sorted.{both, equal_from, lt_from}
+use Rattle.layer_base.proofs.Sorted.{both, lt_from}
 
 module _ {K : Type 0} (R : K → K → Ordering) (o : IsTotalOrder R) where
   -- a key that is neither less than another nor at its place comes after it
@@ -37,7 +38,7 @@ module _ {K X : Type 0} (R : K → K → Ordering) (o : IsTotalOrder R) (apart :
 
   NotDown-same : (k x : K × X) (xs : List (K × X)) → same x k ≡ true → NotDown x xs → NotDown k xs
   NotDown-same k x [] e down = tt
-  NotDown-same k x (y ∷ ys) e down = (subst (λ (n : K). is_lt (R y.0 n) ≡ false) (apart x.0 k.0 (equal_from (R x.0 k.0) e)) down.0, down.1)
+  NotDown-same k x (y ∷ ys) e down = (subst (λ (n : K). is_lt (R y.0 n) ≡ false) (apart x.0 k.0 ((Equal-is (R x.0 k.0)).0 e)) down.0, down.1)
 
   not_down : (k : K × X) (xs : List (K × X)) → IsSortedByKey (λ (e : K × X). e.0) R (k ∷ xs) → NotDown k xs
   not_down k [] sorted = tt
@@ -69,7 +70,7 @@ module _ {K X : Type 0} (R : K → K → Ordering) (o : IsTotalOrder R) (apart :
   find_dedup q k (x ∷ xs) =
       elim (same x k) as (λ b. same x k ≡ b → find R q (cond b (dedup_from same k xs) (k ∷ dedup_from same x xs)) ≡ find R q (k ∷ x ∷ xs)) [
         | true ↦ λ e. find_dedup q k xs ∙ shadowed (eq_by_cmp R q k.0) (Some k.1) (Some x.1) (find R q xs)
-            ∙ ap (λ (n : K). cond (eq_by_cmp R q k.0) (Some k.1) (cond (eq_by_cmp R q n) (Some x.1) (find R q xs))) (sym (apart x.0 k.0 (equal_from (R x.0 k.0) e)))
+            ∙ ap (λ (n : K). cond (eq_by_cmp R q k.0) (Some k.1) (cond (eq_by_cmp R q n) (Some x.1) (find R q xs))) (sym (apart x.0 k.0 ((Equal-is (R x.0 k.0)).0 e)))
         | false ↦ λ e. ap (cond (eq_by_cmp R q k.0) (Some k.1)) (find_dedup q x xs)
       ] refl
 

@@ -3,3 +3,4 @@ pub mod Frozen
 pub mod LastWords
 pub mod Sorted
 pub mod Tables
+pub mod Rising

@@ -30,11 +30,6 @@ less_from Greater p = absurd p
 pub lt_from : (o : Ordering) → o ≡ Less → T (is_lt o)
 lt_from o e = subst (λ (r : Ordering). T (is_lt r)) (sym e) tt
 
-pub equal_from : (o : Ordering) → is_eq o ≡ true → o ≡ Equal
-equal_from Less e = cc
-equal_from Equal e = refl
-equal_from Greater e = cc
-
 -- ---- one comparison, and then another
 
 pub is_eq-then : (a b : Ordering) → is_eq (ordering_then a b) ≡ (is_eq a && is_eq b)

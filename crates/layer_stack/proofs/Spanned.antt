@@ -1,5 +1,6 @@
 -- Rows that are told by the spans of their terms.
 use Rattle.std.proofs.Common.{◌≡◌, ℕ, ◌+◌, ◌-◌, ◌<◌, ◌≤◌, Bool, true, false, if◌then◌else◌, List, [], ◌∷◌, ◌++◌, map, take, length, get_or, Option, None, Some, refl, sym, ◌∙◌, ap, subst, arith, All, append-nil, ◌⊎◌, inl, inr}
+use Rattle.std.specs.Cmp.{Equal-is}
 use Rattle.std.specs.Prelude.{T}
 use Rattle.indexmap.specs.IndexMap.{insert_entry}
 use Rattle.std.specs.declared.cmp.Ordering.{Ordering}
@@ -20,7 +21,7 @@ use Rattle.layer_stack.specs.Places.{term_cmp, place_cmp}
 use Rattle.layer_stack.specs.Postings.{place_of}
 use Rattle.layer_stack.specs.Spans.{spanned, retagged, IsSpans}
 use Rattle.layer_stack.proofs.Order.{term_total, term_apart}
-use Rattle.layer_base.proofs.Sorted.{sorted_at, sorted_push, equal_from, then_less}
+use Rattle.layer_base.proofs.Sorted.{sorted_at, sorted_push, then_less}
 
 pub map_same : {X : Type 0} (f : X → X) (xs : List X) → All (λ x. f x ≡ x) xs → map f xs ≡ xs
 map_same f [] all = refl
@@ -59,7 +60,7 @@ module _ {V : Type 0} (rows : List (Place × V)) where
   run_more from i x y run fits at next same k d low high within = by (cases_lt k (i + 1))
     where
       here : (get_or rows i d).0.term ≡ (get_or rows (i + 1) d).0.term
-      here = ap (λ (r : Place × V). r.0.term) (sym (get_or_read rows i x (omega arith) at d)) ∙ sym (term_apart y.0.term x.0.term (equal_from (term_cmp y.0.term x.0.term) same))
+      here = ap (λ (r : Place × V). r.0.term) (sym (get_or_read rows i x (omega arith) at d)) ∙ sym (term_apart y.0.term x.0.term ((Equal-is (term_cmp y.0.term x.0.term)).0 same))
           ∙ ap (λ (r : Place × V). r.0.term) (get_or_read rows (i + 1) y fits next d)
 
       by : (k < i + 1) ⊎ (i + 1 ≤ k) → (get_or rows k d).0.term ≡ (get_or rows (i + 1) d).0.term

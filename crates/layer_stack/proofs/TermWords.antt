@@ -1,5 +1,6 @@
 -- The words at which the terms of a layer start.
 use Rattle.std.proofs.Common.{◌≡◌, ℕ, zero, suc, ◌<◌, ◌≤◌, Bool, true, false, cond, not, ◌==◌, ◌||◌, List, [], ◌∷◌, ◌++◌, map, length, get_or, Option, None, Some, refl, sym, ◌∙◌, ap, subst, arith, All, is_some, eq-eqb, ◌⊎◌, inl, inr}
+use Rattle.std.specs.Cmp.{Equal-is}
 use Rattle.std.specs.Prelude.{T}
 use Rattle.std.specs.List.{list_any, slice_get}
 use Rattle.std.specs.List.Sorted.{IsPartitionedBy, IsPartitionPoint}
@@ -19,7 +20,7 @@ use Rattle.posting_lists.proofs.Sections.{length-section}
 use Rattle.uni_base.specs.EdgeOrder.{key_cmp}
 use Rattle.uni_base.specs.declared.edge.Key.{Key}
 use Rattle.uni_base.specs.declared.edge.Key.TheVariants.{Id, Word}
-use Rattle.layer_base.proofs.Sorted.{sorted_at, equal_from, less_from}
+use Rattle.layer_base.proofs.Sorted.{sorted_at, less_from}
 use Rattle.layer_stack.specs.declared.directory.Span.{Span}
 use Rattle.layer_stack.specs.declared.place.Place.{Place}
 use Rattle.layer_stack.specs.declared.place.TermKey.{TermKey}
@@ -75,7 +76,7 @@ at_index t (s ∷ spans) e = by (eq_by_cmp term_cmp t s.0) refl e (at_index t sp
   where
     by : (b : Bool) → eq_by_cmp term_cmp t s.0 ≡ b → is_some (cond b (Some s.1) (span_of t spans)) ≡ true
         → (is_some (span_of t spans) ≡ true → (j : ℕ) × (j < length spans) × ((d : TermKey × Span) → (get_or spans j d).0 ≡ t)) → (j : ℕ) × (j < length (s ∷ spans)) × ((d : TermKey × Span) → (get_or (s ∷ spans) j d).0 ≡ t)
-    by true q e rest = (0, omega arith, λ d. sym (term_apart t s.0 (equal_from (term_cmp t s.0) q)))
+    by true q e rest = (0, omega arith, λ d. sym (term_apart t s.0 ((Equal-is (term_cmp t s.0)).0 q)))
     by false q e rest = let r = rest e in (suc r.0, omega (arith, r.1), λ d. r.2 d)
 
 has_at : (spans : List (TermKey × Span)) (n : ℕ) (e : TermKey × Span) → slice_get spans n ≡ Some e → is_some (span_of e.0 spans) ≡ true

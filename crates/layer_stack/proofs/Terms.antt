@@ -1,5 +1,6 @@
 -- The postings of one term in a table, by look-ups.
 use Rattle.std.proofs.Common.{◌≡◌, ℕ, Bool, true, false, cond, not, ◌==◌, ◌&&◌, ◌||◌, List, [], ◌∷◌, ◌++◌, ◌+◌, take, map, filter, length, Option, None, Some, refl, sym, ◌∙◌, ap, All, is_some, arith}
+use Rattle.std.specs.Cmp.{Equal-is}
 use Rattle.std.specs.Prelude.{T}
 use Rattle.std.specs.FinMap as finite
 use Rattle.std.specs.FinMap.Entries.{find, is_sorted, below_all}
@@ -28,7 +29,7 @@ use Rattle.layer_stack.specs.Places.{term_cmp, place_cmp}
 use Rattle.layer_stack.specs.Postings.{PostingTable, PostingChanges, is_under, place_of, posting_of, key_of, postings_of, deletes_of}
 use Rattle.layer_stack.specs.Stacks.{PartValue, entry_of, posting_at, part_changes, part_table, remaining_of}
 use Rattle.layer_stack.proofs.Order.{term_total, place_total, place_apart}
-use Rattle.layer_base.proofs.Sorted.{both, first, second, equal_from, is_eq-then, then_lt}
+use Rattle.layer_base.proofs.Sorted.{both, first, second, is_eq-then, then_lt}
 use Rattle.layer_stack.proofs.Merged.{same_by_get, find-filter, get-part}
 
 -- a row without its term
@@ -74,7 +75,7 @@ module _ {V : Type 0} (t : TermKey) where
       elim (is_under t d) as (λ b. is_under t d ≡ b → T (below_all doc_cmp e.0.key (map keyed (cond b (d ∷ filter (is_under t) es) (filter (is_under t) es))))) [
         | true ↦ λ v.
             let same : is_eq (term_cmp e.0.term d.0.term) ≡ true =
-            ap is_eq (sym (term_total.congr t e.0.term d.0.term (equal_from (term_cmp t e.0.term) u))) ∙ v in
+            ap is_eq (sym (term_total.congr t e.0.term d.0.term ((Equal-is (term_cmp t e.0.term)).0 u))) ∙ v in
             both _ _ (then_lt (term_cmp e.0.term d.0.term) (doc_cmp e.0.key d.0.key) same (first _ _ below)) (below_keyed e es u (second _ _ below))
         | false ↦ λ v. below_keyed e es u (second _ _ below)
       ] refl

@@ -1,5 +1,6 @@
 -- The rows of one term among rows that are laid out by terms.
 use Rattle.std.proofs.Common.{◌≡◌, Bool, true, false, cond, List, [], ◌∷◌, ◌++◌, map, filter, length, Option, None, Some, refl, sym, ◌∙◌, ap, subst, All}
+use Rattle.std.specs.Cmp.{Equal-is}
 use Rattle.std.specs.Prelude.{T}
 use Rattle.std.specs.FinMap as finite
 use Rattle.std.specs.FinMap.Entries.{is_sorted, below_all, is_sorted-where_key}
@@ -20,7 +21,7 @@ use Rattle.layer_stack.specs.Places.{term_cmp, place_cmp}
 use Rattle.layer_stack.specs.Postings.{is_under, posting_of, key_of, place_of}
 use Rattle.layer_stack.specs.Spans.{spanned, tagged, span_of, put_rows, delete_rows, AreLaid}
 use Rattle.layer_stack.proofs.Order.{term_total, term_apart}
-use Rattle.layer_base.proofs.Sorted.{first, second, equal_from, then_lt, find_below}
+use Rattle.layer_base.proofs.Sorted.{first, second, then_lt, find_below}
 
 -- what a look-up of a span tells of a list
 abbrev pub told : {X : Type 0} → Option Span → List X → List X
@@ -45,7 +46,7 @@ module _ {X V : Type 0} (tag : TermKey → X → Place × V) (keeps : (t : TermK
       filter-append (is_under t) (map (tag e.0) (spanned e.1 xs)) (tagged tag spans xs)
       ∙ elim (eq_by_cmp term_cmp t e.0) as (λ b. eq_by_cmp term_cmp t e.0 ≡ b → filter (is_under t) (map (tag e.0) (spanned e.1 xs)) ++ filter (is_under t) (tagged tag spans xs) ≡ map (tag t) (told (cond b (Some e.1) (span_of t spans)) xs)) [
         | true ↦ λ b.
-            let is : t ≡ e.0 = term_apart t e.0 (equal_from (term_cmp t e.0) b) in
+            let is : t ≡ e.0 = term_apart t e.0 ((Equal-is (term_cmp t e.0)).0 b) in
             let none : span_of t spans ≡ None = find_below term_cmp t spans (subst (λ (s : TermKey). T (below_all term_cmp s spans)) (sym is) (first _ _ sorted)) in
             (λ i. same_term t e.0 (spanned e.1 xs) true b i ++ (rows_under t spans xs (second _ _ sorted) ∙ ap (λ s. map (tag t) (told s xs)) none) i)
             ∙ append_nil_at (map (tag e.0) (spanned e.1 xs)) ∙ ap (λ (s : TermKey). map (tag s) (spanned e.1 xs)) (sym is)

@@ -100,6 +100,13 @@ fn noisy_layer(
     Ok(Layer::build(alloc, delta)?)
 }
 
+// A stack with one more layer above all others.
+fn with_layer(alloc: Global, stack: &Stack, layer: Layer) -> Result<Stack, Fail> {
+    let mut next = stack.roomy(1)?;
+    next.push_reserved(Arc::new(alloc, layer)?);
+    Ok(next)
+}
+
 // Stacks of 1 to 9 layers are read like the table that a plain fold over their changes makes.
 #[test]
 fn stacks_are_read_like_a_table(rt: HostRuntime) -> Result<(), Fail> {
@@ -110,10 +117,7 @@ fn stacks_are_read_like_a_table(rt: HostRuntime) -> Result<(), Fail> {
         let mut stack = Stack::of(rt.alloc(), Arc::new(rt.alloc(), base)?)?;
         for _ in 0..noise.below(9) {
             let layer = noisy_layer(rt.alloc(), &mut noise, &mut want)?;
-            let shared = Arc::new(rt.alloc(), layer)?;
-            let mut next = stack.roomy(1)?;
-            next.push_reserved(shared);
-            stack = next;
+            stack = with_layer(rt.alloc(), &stack, layer)?;
         }
         for t in 0..2u64 {
             let term = term(t)?;
@@ -153,14 +157,12 @@ fn one_term_layer(alloc: Global, n: u64, keys: &[u64], is_put: bool) -> Result<L
 // term alone.
 fn emptied_stack(alloc: Global, puts: &[u64], deletes: &[&[u64]]) -> Result<Stack, Fail> {
     let base = one_term_layer(alloc, 1, puts, true)?;
-    let mut stack = Stack::of(alloc, Arc::new(alloc, base)?)?.roomy(deletes.len() + 1)?;
+    let mut stack = Stack::of(alloc, Arc::new(alloc, base)?)?;
     for keys in deletes {
         let layer = one_term_layer(alloc, 1, keys, false)?;
-        stack.push_reserved(Arc::new(alloc, layer)?);
+        stack = with_layer(alloc, &stack, layer)?;
     }
-    let other = one_term_layer(alloc, 0, &[4], true)?;
-    stack.push_reserved(Arc::new(alloc, other)?);
-    Ok(stack)
+    with_layer(alloc, &stack, one_term_layer(alloc, 0, &[4], true)?)
 }
 
 // A term that only an older layer puts, and all whose postings newer layers delete: in one layer,

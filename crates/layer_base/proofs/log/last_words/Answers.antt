@@ -1,9 +1,12 @@
-use Rattle.std.proofs.Common.{rules, ◌≡◌, Bool, ap, ◌∙◌, length, reverse, filter}
+use Rattle.std.proofs.Common.{rules, ◌≡◌, Bool, ap, ◌∙◌, sym, subst, length, reverse, filter}
 use Rattle.std.specs.Ordering.{is_lt}
 use Rattle.std.specs.List.{dedup}
 use Rattle.std.specs.List.Sorted.{IsSortedByKey, IsStableByKey, ties}
 use Rattle.std.proofs.lemmas.List.Sorted.{answers_always, ranks_by}
 use Rattle.std.proofs.lemmas.Fn.{dedup_same}
+use Rattle.std.specs.Prelude.{T}
+use Rattle.std.specs.FinMap.{is_sorted}
+use Rattle.layer_base.proofs.Rising.{log_sorted}
 use Rattle.layer_base.proofs.LastWords.{last_words_are}
 use Rattle.layer_base.proofs.log.last_words.Goals as goal
 
@@ -22,3 +25,9 @@ returns-clause-last g c =
     let kept = dedup_same _ (λ x y. g.K.PartialEq.eq x.0 y.0) _ (λ x y b f' x' y' k. search rules) _ _ c.dedup_by.ensures.filtered in
     kept ∙ (λ i. dedup (λ x y. g.met.K.Ord.matches_eq x.0 y.0 i) ys)
     ∙ last_words_are R g.met.K.Ord.total c.requires c.args.log.items ys (as_long ∙ ap length turned) sorted (λ x. stable x ∙ ap (filter (ties (λ a b. is_lt (R a.0 b.0)) x)) turned)
+
+pub returns-then-rises-clause-last : goal.returns-then-rises-clause-last
+returns-then-rises-clause-last g c =
+    let R = g.K.Ord.cmp in
+    let is : c.rises.result ≡ is_sorted R c.args.log.items = c.rises.ensures ∙ ap (is_sorted R) c.deref.ensures.value in
+    log_sorted R g.met.K.Ord.total c.requires c.args.log.items (subst T (sym c.if-rises.true ∙ is) tt)

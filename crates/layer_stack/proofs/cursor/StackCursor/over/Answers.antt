@@ -1,6 +1,6 @@
-use Rattle.std.proofs.Common.{rules, ◌≡◌, List, [], ◌∷◌, length, Some, ap, ◌∙◌, sym}
+use Rattle.std.proofs.Common.{rules, ◌≡◌, [], ◌∷◌, length, Some, ap, ◌∙◌, sym}
 use Rattle.std.proofs.lemmas.List.{nil_from_length}
-use Rattle.layer_stack.specs.Stacks.{PartValue, and_newest, remaining_of}
+use Rattle.layer_stack.specs.Stacks.{and_newest, remaining_of}
 use Rattle.layer_stack.proofs.Terms.{one_part}
 use Rattle.layer_stack.proofs.cursor.StackCursor.over.Goals as goal
 
