@@ -1,7 +1,22 @@
 pub mod Begins
+pub mod Combined
+mod Cuts
 pub mod Exact
+mod FirstFound
 pub mod Firsts
 pub mod Light
+mod ListStandings
 mod Members
+mod PlaceStandings
+mod PrefixStandings
 pub mod Prefixed
+mod Arrivals
+mod AtPlaces
 pub mod Stands
+mod SeenNodes
+mod SetStandings
+mod StandingOf
+mod Typed
+mod WalkStandings
+mod Walked
+mod WalkedShards

@@ -18,7 +18,7 @@ use Rattle.uni_meaning.specs.Lineages.{under_one}
 use Rattle.uni_meaning.specs.Prefixes.{prefix_keys}
 
 -- filters by tests that agree on the items of a list leave the same
-agreed : (p q : DocKey → Bool) (xs : List DocKey) → ((x : DocKey) → Contains xs x → p x ≡ q x) → filter p xs ≡ filter q xs
+pub agreed : (p q : DocKey → Bool) (xs : List DocKey) → ((x : DocKey) → Contains xs x → p x ≡ q x) → filter p xs ≡ filter q xs
 agreed p q [] agree = refl
 agreed p q (x ∷ xs) agree =
     let rest = agreed p q xs (λ y h. agree y (later_is x xs y h)) in
@@ -55,7 +55,7 @@ module _ (p : DocKey → Bool) (k : DocKey) where
       by true f false g rest = ap (λ b. b || is_among (filter p xs) k) g ∙ rest
       by false f c g rest = rest
 
-  among_left : (xs : List DocKey) → Contains xs k → is_among (filter p xs) k ≡ p k
+  pub among_left : (xs : List DocKey) → Contains xs k → is_among (filter p xs) k ≡ p k
   among_left xs h = by (p k) refl
     where
       by : (b : Bool) → p k ≡ b → is_among (filter p xs) k ≡ p k

@@ -6,3 +6,6 @@ pub mod Lineages
 pub mod Policy
 pub mod Prefixes
 pub mod Replies
+pub mod Standings
+pub mod Walking
+pub mod Viewed

@@ -2,8 +2,20 @@
 //! reply.
 #![tactic(auto)]
 
+mod answer;
+mod column;
+mod cut;
 pub mod examples;
+mod join;
 pub mod laws;
+mod leaf;
+mod pace;
+mod place;
 mod reply;
+mod standing;
+#[cfg(test)]
+mod tests;
+mod view;
 
+pub use answer::plain_answer;
 pub use reply::{Hit, HitList, Reply};
