@@ -116,9 +116,12 @@ module _ (v : Viewed) where
 
         by : (o : Option EdgeRow) → edge_at v.contents edge ≡ o → is_some o ≡ true → (held : Held) × Contains (reached_of v.schema v.contents number key) held × (held.edge.target ≡ id)
         by None e h = cc
-        by (Some row) e h = (held_of_row edge row,
-            (reached_is_exact.lists v.schema limits v.contents number key (held_of_row edge row) within kept).1
-            (ap (λ (o : Option EdgeRow). option_map (λ audience. record { edge = edge; audience = audience }) (option_map (λ r. r.audience) o)) e), refl)
+        by (Some row) e h = (
+          held_of_row edge row,
+          (reached_is_exact.lists v.schema limits v.contents number key (held_of_row edge row) within kept).1
+              (ap (λ (o : Option EdgeRow). option_map (λ audience. record { edge = edge; audience = audience }) (option_map (λ r. r.audience) o)) e),
+          refl,
+        )
 
     -- what the edges from a member bring to an id is what its edge to the id brings, if there is one
     pub arrivals_are : (member : Member) (id : ℕ) → first_of (map (arrival v member id) (reached_of v.schema v.contents number key))

@@ -126,7 +126,7 @@ module _ (v : Viewed) (limits : Limits) (kept : IsKept v.schema limits v.content
   list_kept WeakAnd os xs apart = walk_kept WeakAnd 0 os xs apart
   list_kept StrongOr os xs apart = walk_kept StrongOr 0 os xs apart
 
-  hits_kept : (plan : Plan) (shard : ℕ) → filter (is_among (hits v.schema v.contents plan shard)) (ranked v.schema v.contents (vertical_of v.schema plan) shard) ≡ hits v.schema v.contents plan shard
+  pub hits_kept : (plan : Plan) (shard : ℕ) → filter (is_among (hits v.schema v.contents plan shard)) (ranked v.schema v.contents (vertical_of v.schema plan) shard) ≡ hits v.schema v.contents plan shard
   hits_kept (term_plan number key) shard = filter_kept (leads_to v.contents number key) (ranked v.schema v.contents (target_of v.schema number) shard)
   hits_kept (prefix_plan number from) shard = filter_kept (λ k. list_any (λ word. leads_to v.contents number (Word word) k) (prefix_keys v.contents number from)) (ranked v.schema v.contents (target_of v.schema number) shard)
   hits_kept (list_plan kind plans) shard =

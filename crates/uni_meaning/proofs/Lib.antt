@@ -4,6 +4,7 @@ mod Cuts
 pub mod Exact
 mod FirstFound
 pub mod Firsts
+pub mod Led
 pub mod Light
 mod ListStandings
 mod Members

@@ -131,6 +131,15 @@ module _ (v : Viewed) where
   walk_hit WeakAnd plans x walk = refl
   walk_hit StrongOr plans x walk = refl
 
+  -- what a walk keeps some operand has
+  pub walk_some : (kind : ListKind) (plans : Plans) (x : DocKey) → is_set kind ≡ false → AreOf v.schema plans (first_vertical v.schema plans) → is_hit v.schema v.contents (list_plan kind plans) x ≡ true
+      → list_any is_found (row_of v plans x) ≡ true
+  walk_some kind plans x walk of hit =
+      let shard = shard_of v.schema (first_vertical v.schema plans) x.id in
+      sym (any_found (row_of v plans x)) ∙ ap (list_any (λ b. b)) (found_row v (first_vertical v.schema plans) x plans of ∙ sym (has_row v (first_vertical v.schema plans) x plans))
+      ∙ any_has (operands v.schema v.contents plans shard) x
+      ∙ walk_found kind 0 (operands v.schema v.contents plans shard) (ranked v.schema v.contents (first_vertical v.schema plans) shard) x (sym (walk_hit kind plans x walk) ∙ hit)
+
   pub walks_are : (limits : Limits) (kept : IsKept v.schema limits v.contents) (kind : ListKind) (os : List SeenOperand) (columns : List Column) (places : List Place) → is_set kind ≡ false
       → AreOf v.schema (plans_of os) (first_vertical v.schema (plans_of os)) → places ≡ places_of v.schema v.contents (first_vertical v.schema (plans_of os)) → map seen_column columns ≡ columns_of v os places
       → walk_standings kind columns before_all 0 places ≡ standings_of v (list_plan kind (plans_of os)) places
@@ -151,16 +160,10 @@ module _ (v : Viewed) where
       kept_in : ℕ → DocKey → Bool
       kept_in shard x = is_among (doc_walk kind 0 (operands v.schema v.contents (plans_of os) shard) (ranked v.schema v.contents (first_vertical v.schema (plans_of os)) shard)) x
 
-      found : (x : DocKey) → kept_in (shard_of v.schema (first_vertical v.schema (plans_of os)) x.id) x ≡ true → list_any is_found (row_of v (plans_of os) x) ≡ true
-      found x e =
-          sym (any_found (row_of v (plans_of os) x)) ∙ ap (list_any (λ b. b)) (found_row v (first_vertical v.schema (plans_of os)) x (plans_of os) of ∙ sym (has_row v (first_vertical v.schema (plans_of os)) x (plans_of os)))
-          ∙ any_has (operands v.schema v.contents (plans_of os) (shard_of v.schema (first_vertical v.schema (plans_of os)) x.id)) x
-          ∙ walk_found kind 0 (operands v.schema v.contents (plans_of os) (shard_of v.schema (first_vertical v.schema (plans_of os)) x.id)) (ranked v.schema v.contents (first_vertical v.schema (plans_of os)) (shard_of v.schema (first_vertical v.schema (plans_of os)) x.id)) x e
-
       each : (p : Place) → Contains (places_of v.schema v.contents (first_vertical v.schema (plans_of os))) p
           → (if kept_in p.shard p.doc then hit_by kind (row_of v (plans_of os) p.doc) else Missed) ≡ standing_of v (list_plan kind (plans_of os)) p.doc
       each p at =
           ap (λ n. if kept_in n p.doc then hit_by kind (row_of v (plans_of os) p.doc) else Missed) (sym (place_is v.schema limits v.contents kept (first_vertical v.schema (plans_of os)) p at).1)
           ∙ ap (λ b. if b then hit_by kind (row_of v (plans_of os) p.doc) else Missed) (sym (walk_hit kind (plans_of os) p.doc walk))
           ∙ walk_standing kind (plans_of os) p.doc walk (is_hit v.schema v.contents (list_plan kind (plans_of os)) p.doc) refl
-          (λ hit. found p.doc (sym (walk_hit kind (plans_of os) p.doc walk) ∙ hit))
+          (λ hit. walk_some kind (plans_of os) p.doc walk of hit)

@@ -205,17 +205,17 @@ module _ (v : Viewed) where
     same_row : map (λ (o : Walker DocKey). o.has x) (operands v.schema v.contents plans (shard_of v.schema (first_vertical v.schema plans) x.id)) ≡ map is_found (row_of plans x)
     same_row = has_row (first_vertical v.schema plans) x plans ∙ sym (found_row (first_vertical v.schema plans) x plans of)
 
-    is_all : is_hit v.schema v.contents (list_plan And plans) x ≡ list_all is_found (row_of plans x)
+    pub is_all : is_hit v.schema v.contents (list_plan And plans) x ≡ list_all is_found (row_of plans x)
     unfolding docs
     is_all = among_left (λ k. list_all (λ (o : Walker DocKey). o.has k) (operands v.schema v.contents plans (shard_of v.schema (first_vertical v.schema plans) x.id))) x docs home
         ∙ sym (all_map (λ (o : Walker DocKey). o.has x) (operands v.schema v.contents plans (shard_of v.schema (first_vertical v.schema plans) x.id))) ∙ ap (list_all (λ b. b)) same_row ∙ all_map is_found (row_of plans x)
 
-    is_any : is_hit v.schema v.contents (list_plan Or plans) x ≡ list_any is_found (row_of plans x)
+    pub is_any : is_hit v.schema v.contents (list_plan Or plans) x ≡ list_any is_found (row_of plans x)
     unfolding docs
     is_any = among_left (λ k. list_any (λ (o : Walker DocKey). o.has k) (operands v.schema v.contents plans (shard_of v.schema (first_vertical v.schema plans) x.id))) x docs home
         ∙ sym (any_map (λ (o : Walker DocKey). o.has x) (operands v.schema v.contents plans (shard_of v.schema (first_vertical v.schema plans) x.id))) ∙ ap (list_any (λ b. b)) same_row ∙ any_map is_found (row_of plans x)
 
-    is_alone : is_hit v.schema v.contents (list_plan Difference plans) x ≡ first_only (row_of plans x)
+    pub is_alone : is_hit v.schema v.contents (list_plan Difference plans) x ≡ first_only (row_of plans x)
     unfolding docs
     is_alone = among_left (first_alone (operands v.schema v.contents plans (shard_of v.schema (first_vertical v.schema plans) x.id))) x docs home
         ∙ sym (alone_map (operands v.schema v.contents plans (shard_of v.schema (first_vertical v.schema plans) x.id)) x) ∙ ap first_true same_row ∙ only_map (row_of plans x)

@@ -81,9 +81,9 @@ counted_alike j row x [] [] alike agrees = tt
 counted_alike j row x [] (o ∷ os) alike agrees = absurd alike
 counted_alike j row x (c ∷ cs) [] alike agrees = absurd alike
 counted_alike j row x (c ∷ cs) (o ∷ os) alike agrees = (
-    ap (λ z. quota_of (counted z c).mark) agrees.0 ∙ quota_counted c o alike.0 (o.has x),
-    ap (λ z. (counted z c).own) agrees.0 ∙ own_counted c o alike.1 (o.has x),
-    counted_alike (j + 1) row x cs os alike.2 agrees.1,
+  ap (λ z. quota_of (counted z c).mark) agrees.0 ∙ quota_counted c o alike.0 (o.has x),
+  ap (λ z. (counted z c).own) agrees.0 ∙ own_counted c o alike.1 (o.has x),
+  counted_alike (j + 1) row x cs os alike.2 agrees.1,
 )
 
 -- how operands agree, once an entity is counted

@@ -139,14 +139,15 @@ module _ (kind : ListKind) (columns : List Column) (f : DocKey → List Standing
         by [] e = (pace, λ other above. before other (omega (arith, above)), (let z : i ≡ i + 0 = omega arith in ap (λ n. walk_standings kind columns pace n qs) z))
         by (x ∷ xs) e =
             let rows_from = from_start (x ∷ xs) e in
-            let row = rows_here i (placed shard x) (map (placed shard) xs ++ qs) rows_from in
-            (after shard 0 (fresh_counters columns) (x ∷ xs),
-            λ other above. ap (λ o. option_map_or (λ here. here == other) o false) (after_here shard 0 (fresh_counters columns) (x ∷ xs)) ∙ below_differs shard other (omega (arith, above)),
-            entering i pace (pace_in shard 0 (fresh_counters columns)) (placed shard x) (map (placed shard) xs ++ qs) (other_shard shard pace (before shard (omega arith))) row
-            ∙ sym (entering i (pace_in shard 0 (fresh_counters columns)) (pace_in shard 0 (fresh_counters columns)) (placed shard x) (map (placed shard) xs ++ qs) (same_shard shard 0 (fresh_counters columns)) row)
-            ∙ through_shard shard i 0 (fresh_counters columns) (x ∷ xs) qs rows_from
-            ∙ ap (λ (ss : List Standing). ss ++ walk_standings kind columns (after shard 0 (fresh_counters columns) (x ∷ xs)) (i + length (x ∷ xs)) qs) (told (x ∷ xs) e)
-            ∙ ap (λ n. map by_walk (map (placed shard) (x ∷ xs)) ++ walk_standings kind columns (after shard 0 (fresh_counters columns) (x ∷ xs)) (i + n) qs) (sym (length-map (x ∷ xs) (placed shard))))
+            let row = rows_here i (placed shard x) (map (placed shard) xs ++ qs) rows_from in (
+              after shard 0 (fresh_counters columns) (x ∷ xs),
+              λ other above. ap (λ o. option_map_or (λ here. here == other) o false) (after_here shard 0 (fresh_counters columns) (x ∷ xs)) ∙ below_differs shard other (omega (arith, above)),
+              entering i pace (pace_in shard 0 (fresh_counters columns)) (placed shard x) (map (placed shard) xs ++ qs) (other_shard shard pace (before shard (omega arith))) row
+                  ∙ sym (entering i (pace_in shard 0 (fresh_counters columns)) (pace_in shard 0 (fresh_counters columns)) (placed shard x) (map (placed shard) xs ++ qs) (same_shard shard 0 (fresh_counters columns)) row)
+                  ∙ through_shard shard i 0 (fresh_counters columns) (x ∷ xs) qs rows_from
+                  ∙ ap (λ (ss : List Standing). ss ++ walk_standings kind columns (after shard 0 (fresh_counters columns) (x ∷ xs)) (i + length (x ∷ xs)) qs) (told (x ∷ xs) e)
+                  ∙ ap (λ n. map by_walk (map (placed shard) (x ∷ xs)) ++ walk_standings kind columns (after shard 0 (fresh_counters columns) (x ∷ xs)) (i + n) qs) (sym (length-map (x ∷ xs) (placed shard))),
+            )
 
     map-append : (ps qs : List Place) → map by_walk (ps ++ qs) ≡ map by_walk ps ++ map by_walk qs
     map-append [] qs = refl

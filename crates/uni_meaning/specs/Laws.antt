@@ -5,14 +5,17 @@ use Rattle.uni_base.specs.Walks.{Quota, Unmarked, Count, Weight, Walker, weak_wa
 use Rattle.uni_base.specs.declared.edge.EdgeRef.{EdgeRef}
 use Rattle.uni_base.specs.declared.edge.Key.TheVariants.{Word}
 use Rattle.uni_base.specs.declared.entity.DocKey.{DocKey}
+use Rattle.uni_base.specs.declared.limits.Limits.{Limits}
 use Rattle.uni_schema.specs.Schema.{Declarations, shard_of}
 use Rattle.uni_table.specs.Contents.{Contents, has_edge}
 use Rattle.uni_table.specs.Ranked.{ranked}
+use Rattle.uni_table.specs.TableState.{IsKept}
 use Rattle.query_tree.specs.declared.kind.ListKind.TheVariants.{Or}
 use Rattle.query_tree.specs.declared.query.Mark.TheVariants.{Plain}
+use Rattle.query_check.specs.Verticals.{IsOf}
 use Rattle.query_check.specs.Plan.{Plan, Plans, term_plan, prefix_plan, list_plan, no_plans, with_plan}
 use Rattle.uni_meaning.specs.Firsts.{first_given, first_shown}
-use Rattle.uni_meaning.specs.Hits.{hits, target_of}
+use Rattle.uni_meaning.specs.Hits.{hits, is_hit, target_of}
 use Rattle.uni_meaning.specs.Lineages.{IsLineage, lineages}
 use Rattle.uni_meaning.specs.Policy.{authorised}
 use Rattle.uni_meaning.specs.Prefixes.{prefix_keys}
@@ -35,6 +38,11 @@ pub record LineagesAreExact : Type 0 where
 -- every edge of a lineage is an edge of the table
 pub record LineagesStand : Type 0 where
   pub stands : (schema : Declarations) (table : Contents) (plan : Plan) (x : DocKey) (edges : List EdgeRef) → IsLineage schema table plan x edges → list_all (has_edge table) edges ≡ true
+
+-- every hit of a typed plan has a lineage, over a table that keeps what tables keep
+pub record HitsHaveLineages : Type 0 where
+  pub has : (schema : Declarations) (limits : Limits) (table : Contents) (plan : Plan) (vertical : ℕ) (x : DocKey) → IsKept schema limits table → IsOf schema plan vertical
+      → is_hit schema table plan x ≡ true → (edges : List EdgeRef) × IsLineage schema table plan x edges
 
 -- a reply at a limit begins the reply at any greater one
 pub record RepliesBegin : Type 0 where

@@ -101,6 +101,6 @@ walk_standings kind columns pace i [] = []
 walk_standings kind columns pace i (place ∷ places) =
     let now = entered (fresh_counters columns) place.shard pace in
     elim (pace_keeps kind now (row_at columns i)) [
-    | true ↦ hit_by kind (row_at columns i) ∷ walk_standings kind columns (advanced (row_at columns i) now) (i + 1) places
-    | false ↦ Missed ∷ walk_standings kind columns now (i + 1) places
+      | true ↦ hit_by kind (row_at columns i) ∷ walk_standings kind columns (advanced (row_at columns i) now) (i + 1) places
+      | false ↦ Missed ∷ walk_standings kind columns now (i + 1) places
     ]

@@ -43,11 +43,7 @@ impl<'t> View<'t> {
     }
 
     // The hits among entities.
-    fn members(
-        &self,
-        places: &[Place],
-        standings: &[Standing],
-    ) -> Result<Vec<Member>, AllocError>
+    fn members(&self, places: &[Place], standings: &[Standing]) -> Result<Vec<Member>, AllocError>
         requires { length places.now ≡ length standings.now }
         ensures { IfOk result (λ members. members.items ≡ found_members places.now standings.now) }
     {

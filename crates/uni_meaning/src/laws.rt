@@ -1,6 +1,6 @@
 //! Laws about the definitions, each the contract of a function that does nothing.
 ghost use Rattle.uni_base.specs.declared.entity.DocKey.{DocKey};
-ghost use Rattle.uni_meaning.specs.Laws.{FirstIsFirst, LightWalk, LineagesAreExact, LineagesStand, PrefixIsOr, RepliesBegin};
+ghost use Rattle.uni_meaning.specs.Laws.{FirstIsFirst, HitsHaveLineages, LightWalk, LineagesAreExact, LineagesStand, PrefixIsOr, RepliesBegin};
 
 /// What is shown is the first lineage whose edges are all authorised; so something is shown exactly where
 /// there is one.
@@ -19,6 +19,12 @@ pub fn lineages_are_exact()
 #[tactic(auto, using(crate::proofs::Stands::lineages_stand))]
 pub fn lineages_stand()
     ensures { LineagesStand }
+{}
+
+/// Every hit of a typed query has a lineage, over a table that keeps what tables keep.
+#[tactic(auto, using(crate::proofs::Led::hits_have_lineages))]
+pub fn hits_have_lineages()
+    ensures { HitsHaveLineages }
 {}
 
 /// A reply at a limit begins the reply at any greater one.

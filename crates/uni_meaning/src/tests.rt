@@ -132,11 +132,7 @@ fn put(table: &mut Table, command: Command) -> Result<(), Fail> {
 }
 
 fn small(alloc: Global) -> Result<Table, Fail> {
-    let mut table = Table::new(
-        alloc,
-        Arc::new(alloc, schema(alloc)?)?,
-        Limits::standard(),
-    );
+    let mut table = Table::new(alloc, Arc::new(alloc, schema(alloc)?)?, Limits::standard());
     for (vertical, n, rank) in &ENTITIES {
         put(&mut table, entity(*vertical, *n, *rank)?)?;
     }
@@ -180,6 +176,9 @@ fn reply(
     limit: u32,
 ) -> Result<Reply, Fail> {
     let limits = Limits::standard();
+    if query.len() > 1024 {
+        return Err("a long query")?;
+    }
     let Ok(query) = read_query(alloc, &limits, 2, query.as_bytes()) else {
         return Err("no query")?;
     };
@@ -197,14 +196,16 @@ fn shows(
     expected: &[(u64, &[Named<'_>])],
 ) -> Result<bool, Fail> {
     let reply = reply(alloc, table, query, 9, 10)?;
-    Ok(reply.publishes == 1
-        && reply.hits.len() == expected.len()
-        && reply
-            .hits
-            .as_slice()
-            .iter()
-            .zip(expected.iter())
-            .all(|(hit, wanted)| is_hit(hit, wanted)))
+    Ok(
+        reply.publishes == 1
+            && reply.hits.len() == expected.len()
+            && reply
+                .hits
+                .as_slice()
+                .iter()
+                .zip(expected.iter())
+                .all(|(hit, wanted)| is_hit(hit, wanted)),
+    )
 }
 
 // Whether a viewer is answered hits of these ids.
@@ -217,13 +218,15 @@ fn finds(
     expected: &[u64],
 ) -> Result<bool, Fail> {
     let reply = reply(alloc, table, query, viewer, limit)?;
-    Ok(reply.hits.len() == expected.len()
-        && reply
-            .hits
-            .as_slice()
-            .iter()
-            .zip(expected.iter())
-            .all(|(hit, n)| hit.key.id.get() == *n))
+    Ok(
+        reply.hits.len() == expected.len()
+            && reply
+                .hits
+                .as_slice()
+                .iter()
+                .zip(expected.iter())
+                .all(|(hit, n)| hit.key.id.get() == *n),
+    )
 }
 
 #[test]
@@ -300,7 +303,16 @@ fn joins(rt: HostRuntime) -> Result<(), Fail> {
         (101, &[(2, "2", 101), (0, "1", 2)]),
     ];
     assert!(rt; shows(alloc, &table, "(apply tagged: friend:1)", &tagged)?);
-    assert!(rt; finds(alloc, &table, "(apply tagged: friend:1 :limit 1)", 9, 10, &[101])?);
+    assert!(rt;
+        finds(
+            alloc,
+            &table,
+            "(apply tagged: friend:1 :limit 1)",
+            9,
+            10,
+            &[101]
+        )?
+    );
     let shown: [(u64, &[Named<'_>]); 2] = [
         (1, &[(3, "102", 1), (2, "3", 102), (0, "1", 3)]),
         (4, &[(3, "102", 4), (2, "3", 102), (0, "1", 3)]),
@@ -368,7 +380,14 @@ fn beginnings_of_words(rt: HostRuntime) -> Result<(), Fail> {
     assert!(rt; shows(alloc, &table, "lives:rom*", &two_keys)?);
     assert!(rt; finds(alloc, &table, "lives:os*", 9, 10, &[])?);
     put(&mut table, edge(1, "roma", 2, AudienceText::Only)?)?;
-    assert!(rt; shows(alloc, &table, "(and lives:rom* (difference friend:1 lives:roma))", &[(5, &[(1, "rome", 5), (0, "1", 5)])])?);
+    assert!(rt;
+        shows(
+            alloc,
+            &table,
+            "(and lives:rom* (difference friend:1 lives:roma))",
+            &[(5, &[(1, "rome", 5), (0, "1", 5)])]
+        )?
+    );
     assert!(rt; finds(alloc, &table, "lives:rom*", 9, 1, &[2])?);
     Ok(())
 }

@@ -28,12 +28,9 @@ pub(crate) struct View<'t> {
 impl<'t> Model for View<'t> {
     ghost use Rattle.std.specs.Prelude.{◌≡◌};
     ghost use Rattle.uni_schema.specs.Schema.{IsSchema};
-ghost use Rattle.uni_table.specs.Contents.{has_edge};
-ghost use Rattle.uni_meaning.specs.Hits.{edge_to};
-ghost use Rattle.uni_meaning.specs.Policy.{denials_from};
-    ghost use Rattle.uni_meaning.specs.Viewed.{Viewed};
-    ghost use Rattle.uni_schema.specs.Schema.{IsSchema};
     ghost use Rattle.uni_table.specs.TableState.{IsKept};
+    ghost use Rattle.uni_meaning.specs.Policy.{denials_from};
+    ghost use Rattle.uni_meaning.specs.Viewed.{Viewed};
 
     ghost Value = { Viewed };
 

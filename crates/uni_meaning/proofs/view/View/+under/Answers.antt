@@ -121,37 +121,72 @@ under-returns-in-Prefix t c =
 pub under-under_list-requires : goal.under-under_list-requires
 under-under_list-requires t c =
     let v = c.args.self.now in
-    let is : seen_node c.args.node.now ≡ seen_list lists.And (operands_seen c.in-And.operands.items) = ap seen_node c.in-And.is ∙ seen_and c.in-And.operands in
-    (omega (arith, c.decreases, ap (λ (s : Seen). plan_size s.plan) is), (c.requires.view, (subst (λ (s : Seen). IsOf v.schema s.plan (vertical_of v.schema s.plan)) is c.requires.typed,
-    (subst (λ (s : Seen). AreStated v.schema s.inner) is c.requires.inner, subst (λ (s : Seen). c.args.places.now ≡ places_of v.schema v.contents (vertical_of v.schema s.plan)) is c.requires.there))))
+    let is : seen_node c.args.node.now ≡ seen_list lists.And (operands_seen c.in-And.operands.items) = ap seen_node c.in-And.is ∙ seen_and c.in-And.operands in (
+      omega (arith, c.decreases, ap (λ (s : Seen). plan_size s.plan) is),
+      (
+        c.requires.view,
+        (
+          subst (λ (s : Seen). IsOf v.schema s.plan (vertical_of v.schema s.plan)) is c.requires.typed,
+          (subst (λ (s : Seen). AreStated v.schema s.inner) is c.requires.inner, subst (λ (s : Seen). c.args.places.now ≡ places_of v.schema v.contents (vertical_of v.schema s.plan)) is c.requires.there),
+        ),
+      ),
+    )
 
 pub under-under_list-requires-in-Or : goal.under-under_list-requires-in-Or
 under-under_list-requires-in-Or t c =
     let v = c.args.self.now in
-    let is : seen_node c.args.node.now ≡ seen_list lists.Or (operands_seen c.in-Or.operands.items) = ap seen_node c.in-Or.is ∙ seen_or c.in-Or.operands in
-    (omega (arith, c.decreases, ap (λ (s : Seen). plan_size s.plan) is), (c.requires.view, (subst (λ (s : Seen). IsOf v.schema s.plan (vertical_of v.schema s.plan)) is c.requires.typed,
-    (subst (λ (s : Seen). AreStated v.schema s.inner) is c.requires.inner, subst (λ (s : Seen). c.args.places.now ≡ places_of v.schema v.contents (vertical_of v.schema s.plan)) is c.requires.there))))
+    let is : seen_node c.args.node.now ≡ seen_list lists.Or (operands_seen c.in-Or.operands.items) = ap seen_node c.in-Or.is ∙ seen_or c.in-Or.operands in (
+      omega (arith, c.decreases, ap (λ (s : Seen). plan_size s.plan) is),
+      (
+        c.requires.view,
+        (
+          subst (λ (s : Seen). IsOf v.schema s.plan (vertical_of v.schema s.plan)) is c.requires.typed,
+          (subst (λ (s : Seen). AreStated v.schema s.inner) is c.requires.inner, subst (λ (s : Seen). c.args.places.now ≡ places_of v.schema v.contents (vertical_of v.schema s.plan)) is c.requires.there),
+        ),
+      ),
+    )
 
 pub under-under_list-requires-in-Difference : goal.under-under_list-requires-in-Difference
 under-under_list-requires-in-Difference t c =
     let v = c.args.self.now in
-    let is : seen_node c.args.node.now ≡ seen_list lists.Difference (operands_seen c.in-Difference.operands.items) = ap seen_node c.in-Difference.is ∙ seen_difference c.in-Difference.operands in
-    (omega (arith, c.decreases, ap (λ (s : Seen). plan_size s.plan) is), (c.requires.view, (subst (λ (s : Seen). IsOf v.schema s.plan (vertical_of v.schema s.plan)) is c.requires.typed,
-    (subst (λ (s : Seen). AreStated v.schema s.inner) is c.requires.inner, subst (λ (s : Seen). c.args.places.now ≡ places_of v.schema v.contents (vertical_of v.schema s.plan)) is c.requires.there))))
+    let is : seen_node c.args.node.now ≡ seen_list lists.Difference (operands_seen c.in-Difference.operands.items) = ap seen_node c.in-Difference.is ∙ seen_difference c.in-Difference.operands in (
+      omega (arith, c.decreases, ap (λ (s : Seen). plan_size s.plan) is),
+      (
+        c.requires.view,
+        (
+          subst (λ (s : Seen). IsOf v.schema s.plan (vertical_of v.schema s.plan)) is c.requires.typed,
+          (subst (λ (s : Seen). AreStated v.schema s.inner) is c.requires.inner, subst (λ (s : Seen). c.args.places.now ≡ places_of v.schema v.contents (vertical_of v.schema s.plan)) is c.requires.there),
+        ),
+      ),
+    )
 
 pub under-under_list-requires-in-WeakAnd : goal.under-under_list-requires-in-WeakAnd
 under-under_list-requires-in-WeakAnd t c =
     let v = c.args.self.now in
-    let is : seen_node c.args.node.now ≡ seen_list lists.WeakAnd (operands_seen c.in-WeakAnd.operands.items) = ap seen_node c.in-WeakAnd.is ∙ seen_weak_and c.in-WeakAnd.operands in
-    (omega (arith, c.decreases, ap (λ (s : Seen). plan_size s.plan) is), (c.requires.view, (subst (λ (s : Seen). IsOf v.schema s.plan (vertical_of v.schema s.plan)) is c.requires.typed,
-    (subst (λ (s : Seen). AreStated v.schema s.inner) is c.requires.inner, subst (λ (s : Seen). c.args.places.now ≡ places_of v.schema v.contents (vertical_of v.schema s.plan)) is c.requires.there))))
+    let is : seen_node c.args.node.now ≡ seen_list lists.WeakAnd (operands_seen c.in-WeakAnd.operands.items) = ap seen_node c.in-WeakAnd.is ∙ seen_weak_and c.in-WeakAnd.operands in (
+      omega (arith, c.decreases, ap (λ (s : Seen). plan_size s.plan) is),
+      (
+        c.requires.view,
+        (
+          subst (λ (s : Seen). IsOf v.schema s.plan (vertical_of v.schema s.plan)) is c.requires.typed,
+          (subst (λ (s : Seen). AreStated v.schema s.inner) is c.requires.inner, subst (λ (s : Seen). c.args.places.now ≡ places_of v.schema v.contents (vertical_of v.schema s.plan)) is c.requires.there),
+        ),
+      ),
+    )
 
 pub under-under_list-requires-in-StrongOr : goal.under-under_list-requires-in-StrongOr
 under-under_list-requires-in-StrongOr t c =
     let v = c.args.self.now in
-    let is : seen_node c.args.node.now ≡ seen_list lists.StrongOr (operands_seen c.in-StrongOr.operands.items) = ap seen_node c.in-StrongOr.is ∙ seen_strong_or c.in-StrongOr.operands in
-    (omega (arith, c.decreases, ap (λ (s : Seen). plan_size s.plan) is), (c.requires.view, (subst (λ (s : Seen). IsOf v.schema s.plan (vertical_of v.schema s.plan)) is c.requires.typed,
-    (subst (λ (s : Seen). AreStated v.schema s.inner) is c.requires.inner, subst (λ (s : Seen). c.args.places.now ≡ places_of v.schema v.contents (vertical_of v.schema s.plan)) is c.requires.there))))
+    let is : seen_node c.args.node.now ≡ seen_list lists.StrongOr (operands_seen c.in-StrongOr.operands.items) = ap seen_node c.in-StrongOr.is ∙ seen_strong_or c.in-StrongOr.operands in (
+      omega (arith, c.decreases, ap (λ (s : Seen). plan_size s.plan) is),
+      (
+        c.requires.view,
+        (
+          subst (λ (s : Seen). IsOf v.schema s.plan (vertical_of v.schema s.plan)) is c.requires.typed,
+          (subst (λ (s : Seen). AreStated v.schema s.inner) is c.requires.inner, subst (λ (s : Seen). c.args.places.now ≡ places_of v.schema v.contents (vertical_of v.schema s.plan)) is c.requires.there),
+        ),
+      ),
+    )
 
 pub under-under_query-requires : goal.under-under_query-requires
 under-under_query-requires t c =
