@@ -1,2 +1,5 @@
 pub mod Forms
+pub mod Numerals
+pub mod Parts
+pub mod Texts
 pub mod Worked

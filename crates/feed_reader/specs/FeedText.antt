@@ -49,12 +49,18 @@ written_fields publish_line = codes "publish" ∷ []
 abbrev pub written_text : WrittenLine → List ℕ
 written_text written = spaced (written_fields written)
 
--- the ids of entities, and the ranks that they may have
+abbrev pub is_between : ℕ → ℕ → ℕ → Bool
+is_between low high n = nat_le low n && nat_le n high
+
+-- the ids of entities, the ranks that they may have, and the publishes that may end an edge
 abbrev pub is_id : ℕ → Bool
-is_id n = nat_le 1 n && nat_le n 18446744073709551615
+is_id n = is_between 1 18446744073709551615 n
 
 abbrev pub is_rank : ℕ → Bool
-is_rank n = nat_le n 4294967295
+is_rank n = is_between 0 4294967295 n
+
+abbrev pub is_publish : ℕ → Bool
+is_publish n = is_between 1 1048576 n
 
 -- whether an audience is written with a name and a word, where it is a circle
 abbrev pub is_audience : WrittenAudience → Bool
@@ -62,10 +68,10 @@ is_audience public_audience = true
 is_audience only_audience = true
 is_audience (circle_audience type_name key) = is_name type_name && is_word key
 
--- whether an edge may be written with this end: with none, or in format 2 with one of 2 ^ 20 publishes
+-- whether an edge may be written with this end: with none, or in format 2 with a publish
 abbrev pub is_until : ℕ → Option ℕ → Bool
 is_until format None = true
-is_until format (Some until) = (format == 2) && (nat_le 1 until && nat_le until 1048576)
+is_until format (Some until) = (format == 2) && is_publish until
 
 -- whether a line is one that may be written in a script of a format
 abbrev pub is_written : ℕ → WrittenLine → Bool

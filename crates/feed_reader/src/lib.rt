@@ -6,6 +6,7 @@ mod audience;
 pub mod examples;
 mod fault;
 mod field;
+pub mod laws;
 mod line;
 mod names;
 mod print;

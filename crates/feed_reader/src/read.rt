@@ -1,16 +1,16 @@
-ghost use Rattle.std.specs.Prelude.{◌≡◌, ◌↔◌, Result, IfOk};
-ghost use Rattle.feed_reader.specs.FeedText.{ReadsAs};
+ghost use Rattle.std.specs.Prelude.{◌≡◌, ◌↔◌, Some, None, Result, MatchResult, IfOk};
+ghost use Rattle.feed_reader.specs.FeedText.{ReadsAs, gone_line};
 ghost use Rattle.feed_reader.specs.Printing.{HasUntil, LineIsDeclared};
 ghost use Rattle.feed_reader.specs.Names.{AreOf};
 ghost use Rattle.feed_reader.specs.Reading.{answer, cut_in, edge_in, entity_in, feed_line_of, gone_in, written_in};
-ghost use Rattle.uni_schema.specs.Schema.{Declarations};
 ghost use Rattle.feed_reader.specs.declared.line.FeedLine.{FeedLine};
 ghost use Rattle.feed_reader.specs.declared.fault.LineFault.{LineFault};
+ghost use Rattle.feed_reader.specs.declared.fault.LineFault.TheVariants.{BadLine};
 
 use crate::audience::{read_audience, read_until};
 use crate::field::{end_of, id_of, next_of, number_of, word_of};
 use crate::{FeedLine, LastNames, LineFault};
-use uni_base::{Fields, Rank};
+use uni_base::{EntityId, Fields, Rank};
 use uni_schema::Schema;
 use uni_table::Command;
 
@@ -62,7 +62,8 @@ fn read_fields(
     } else if word == b"cut".as_slice() {
         read_cut(schema, names, fields)
     } else if word == b"gone".as_slice() {
-        read_gone(fields)
+        let id = read_gone(fields)?;
+        Ok(FeedLine::Change(Command::Gone { id }))
     } else if word == b"publish".as_slice() {
         end_of(fields)?;
         Ok(FeedLine::Publish)
@@ -97,13 +98,15 @@ fn read_entity(
     }
 }
 
-// `gone ID`, after its first word
-fn read_gone(mut fields: Fields<'_>) -> Result<FeedLine, LineFault>
-    ensures { (schema : Declarations) → result ≡ answer schema (gone_in fields.entry) }
+// The id of `gone ID`, after its first word
+fn read_gone(mut fields: Fields<'_>) -> Result<EntityId, LineFault>
+    ensures { MatchResult result
+        (λ id. gone_in fields.entry ≡ Some (gone_line id))
+        (λ fault. (gone_in fields.entry ≡ None) × (fault ≡ BadLine)) }
 {
     let id = id_of(next_of(&mut fields)?)?;
     end_of(fields)?;
-    Ok(FeedLine::Change(Command::Gone { id }))
+    Ok(id)
 }
 
 // `edge TYPE KEY TARGET AUDIENCE`, in format 2 also with `until PUBLISH`, after its first word
