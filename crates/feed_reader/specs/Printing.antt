@@ -1,6 +1,7 @@
 -- Lines whose numbers are those of a schema, and their text under it.
-use Rattle.std.specs.Prelude.{ℕ, Bool, true, ◌≡◌, ◌==◌, if◌then◌else◌, List, [], Option, None, Some, Ok, ⊤}
+use Rattle.std.specs.Prelude.{ℕ, Bool, true, ◌≡◌, ◌<◌, ◌^◌, ◌==◌, if◌then◌else◌, List, [], Option, None, Some, Ok, ⊤}
 use Rattle.std.specs.Option.{option_map_or}
+use Rattle.uni_base.specs.Words.{is_word}
 use Rattle.uni_schema.specs.Print.{vertical_name}
 use Rattle.uni_schema.specs.Schema.{Declarations, IsSchema, type_at}
 use Rattle.uni_table.specs.Commands.{IsDeclared}
@@ -55,7 +56,36 @@ line_written schema Publish = publish_line
 abbrev pub line_text : Declarations → FeedLine → List ℕ
 line_text schema line = written_text (line_written schema line)
 
+-- the ids of a line are from 1 on, as those of entities are
+abbrev pub HasIds : FeedLine → Type 0
+HasIds (Change (Entity vertical id rank)) = 0 < id
+HasIds (Change (Gone id)) = 0 < id
+HasIds (Change (Edge number key target audience until)) = 0 < target
+HasIds (Change (Cut number key target)) = 0 < target
+HasIds Publish = ⊤
+
+-- the words and the numbers of a change are such as its fields hold: words are words, and numbers are of
+-- so many bits
+abbrev pub HasWord : AudienceText → Type 0
+HasWord Public = ⊤
+HasWord Only = ⊤
+HasWord (Circle number key) = is_word key ≡ true
+
+abbrev pub FitsFields : Command → Type 0
+FitsFields (Entity vertical id rank) = (id < 2 ^ 64) × (rank.0 < 2 ^ 32)
+FitsFields (Gone id) = id < 2 ^ 64
+FitsFields (Edge number key target audience until) = (is_word key ≡ true) × (target < 2 ^ 64) × HasWord audience
+FitsFields (Cut number key target) = (is_word key ≡ true) × (target < 2 ^ 64)
+
+abbrev pub LineFits : FeedLine → Type 0
+LineFits (Change command) = FitsFields command
+LineFits Publish = ⊤
+
 -- the text of a line is read as that line again, where its numbers are declared and it may be written
 pub record TextIsRead : Type 0 where
   pub is : (schema : Declarations) (line : FeedLine) → IsSchema schema → LineIsDeclared schema line → is_written schema.format (line_written schema line) ≡ true
       → feed_line_of schema (line_text schema line) ≡ Ok line
+
+-- the line that was read off a text has that text
+pub record ReadIsPrinted : Type 0 where
+  pub is : (schema : Declarations) (text : List ℕ) (line : FeedLine) → feed_line_of schema text ≡ Ok line → line_text schema line ≡ text

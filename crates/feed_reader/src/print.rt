@@ -1,6 +1,6 @@
 ghost use Rattle.std.specs.Prelude.{◌≡◌, ◌++◌, ◌∷◌, Ok, OnOk, IfOk};
 ghost use Rattle.std.specs.Fmt.{decimal};
-ghost use Rattle.feed_reader.specs.Printing.{HasUntil, LineIsDeclared, audience_written, command_written, line_text, until_of};
+ghost use Rattle.feed_reader.specs.Printing.{FitsFields, HasIds, HasUntil, HasWord, LineFits, LineIsDeclared, audience_written, command_written, line_text, until_of};
 ghost use Rattle.feed_reader.specs.FeedText.{audience_text, until_fields, written_text};
 ghost use Rattle.feed_reader.specs.Parts.{with_spaces};
 ghost use Rattle.feed_reader.specs.Reading.{feed_line_of};
@@ -19,20 +19,32 @@ pub fn print_feed_line(alloc: Global, schema: &Schema, line: &FeedLine) -> Resul
     requires declared { LineIsDeclared schema.now line.now }
     requires until { HasUntil schema.now line.now }
     ensures text { IfOk result (λ text. text ≡ line_text schema.now line.now) }
-    ensures again { IfOk result (λ text. feed_line_of schema.now text ≡ Ok line.now) }
+    ensures again { HasIds line.now → IfOk result (λ text. feed_line_of schema.now text ≡ Ok line.now) }
 {
+    // Every schema tells its names apart, so that the text names what the line does.
+    let _format = schema.format();
     let mut text = Rows::new(alloc);
-    match line {
-        FeedLine::Change(command) => add_command(&mut text, schema, command)?,
-        FeedLine::Publish => text.extend_from_slice(b"publish")?,
-    }
+    add_line(&mut text, schema, line)?;
     Ok(text)
+}
+
+// Adds the text of a line.
+fn add_line(text: &mut Text, schema: &Schema, line: &FeedLine) -> Result<(), AllocError>
+    requires { LineIsDeclared schema.now line.now }
+    ensures text { OnOk result (text.new ≡ text.old ++ line_text schema.now line.now) }
+    ensures fits { OnOk result (LineFits line.now) }
+{
+    match line {
+        FeedLine::Change(command) => add_command(text, schema, command),
+        FeedLine::Publish => text.extend_from_slice(b"publish"),
+    }
 }
 
 // Adds the text of a change.
 fn add_command(text: &mut Text, schema: &Schema, command: &Command) -> Result<(), AllocError>
     requires { IsDeclared schema.now command.now }
-    ensures { OnOk result (text.new ≡ text.old ++ written_text (command_written schema.now command.now)) }
+    ensures text { OnOk result (text.new ≡ text.old ++ written_text (command_written schema.now command.now)) }
+    ensures fits { OnOk result (FitsFields command.now) }
 {
     match command {
         Command::Entity { vertical, id, rank } => {
@@ -75,7 +87,8 @@ fn add_command(text: &mut Text, schema: &Schema, command: &Command) -> Result<()
 // Adds a space and an audience.
 fn add_audience(text: &mut Text, schema: &Schema, audience: &AudienceText) -> Result<(), AllocError>
     requires { IsDeclaredAudience schema.now audience.now }
-    ensures { OnOk result (text.new ≡ text.old ++ 32 ∷ audience_text (audience_written schema.now audience.now)) }
+    ensures text { OnOk result (text.new ≡ text.old ++ 32 ∷ audience_text (audience_written schema.now audience.now)) }
+    ensures word { OnOk result (HasWord audience.now) }
 {
     match audience {
         AudienceText::Public => add_field(text, b"public"),
