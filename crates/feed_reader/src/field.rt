@@ -5,7 +5,8 @@ ghost use Rattle.uni_base.specs.Numbers.{id_of, number_between};
 ghost use Rattle.feed_reader.specs.declared.fault.LineFault.TheVariants.{BadLine};
 
 use crate::LineFault;
-use uni_base::{EntityId, Fields, Word, read_between};
+use crate::number::number_between;
+use uni_base::{EntityId, Fields, Word};
 
 /// The next field, which a line of no form lacks.
 pub(crate) fn next_of<'a>(fields: &mut Fields<'a>) -> Result<&'a [u8], LineFault>
@@ -40,7 +41,7 @@ pub(crate) fn number_of(text: &[u8], low: u64, high: u64) -> Result<u64, LineFau
     ensures number { result ≡ told (number_between low high text.now) }
     ensures within { IfOk result (λ n. (low ≤ n) × (n ≤ high)) }
 {
-    read_between(text, low, high).ok_or(LineFault::BadLine)
+    number_between(text, low, high).ok_or(LineFault::BadLine)
 }
 
 /// The id that a field is.

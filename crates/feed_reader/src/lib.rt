@@ -9,6 +9,7 @@ mod field;
 pub mod laws;
 mod line;
 mod names;
+mod number;
 mod print;
 mod read;
 

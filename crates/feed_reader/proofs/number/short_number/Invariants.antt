@@ -1,0 +1,13 @@
+-- the digits so far write the value
+use Rattle.std.proofs.Common.{◌≡◌, ◌<◌, ◌^◌, true, take}
+use Rattle.std.specs.List.{list_all}
+use Rattle.std.specs.Str.Parse.{digits_value}
+use Rattle.uni_base.specs.Words.{is_digit}
+use Rattle.feed_reader.proofs.number.short_number.Given as goal
+
+abbrev pub invariant-loop-byte : goal.invariant-loop-byte
+invariant-loop-byte l = record {
+  value : l.value ≡ digits_value 10 (take l.byte-index l.text);
+  digits : list_all is_digit (take l.byte-index l.text) ≡ true;
+  small : l.value < 10 ^ l.byte-index;
+}
