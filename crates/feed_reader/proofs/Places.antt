@@ -80,16 +80,18 @@ found_at name xs text k found =
 pub vertical_found : (schema : Declarations) → IsSchema schema → (k : ℕ) → k < length schema.verticals
     → (vertical_no schema (vertical_name schema k) ≡ Some k) × (is_name (vertical_name schema k) ≡ true)
 vertical_found schema kept k h =
-    let at : slice_get (vertical_names schema) k ≡ Some (vertical_name schema k) = entry (λ (v : VerticalDef). v.name) schema.verticals k h in
-    (placed_at [] (vertical_names schema) k (vertical_name schema k) kept.verticals_apart at ∙ ap Some (zero-add k),
-    (and_parts (is_name (vertical_name schema k)) (not (same (vertical_name schema k) (codes "word"))) (passes_at is_vertical_name (vertical_names schema) k (vertical_name schema k) kept.verticals_named at)).0)
+    let at : slice_get (vertical_names schema) k ≡ Some (vertical_name schema k) = entry (λ (v : VerticalDef). v.name) schema.verticals k h in (
+      placed_at [] (vertical_names schema) k (vertical_name schema k) kept.verticals_apart at ∙ ap Some (zero-add k),
+      (and_parts (is_name (vertical_name schema k)) (not (same (vertical_name schema k) (codes "word"))) (passes_at is_vertical_name (vertical_names schema) k (vertical_name schema k) kept.verticals_named at)).0,
+    )
 
 pub type_found : (schema : Declarations) → IsSchema schema → (k : ℕ) → k < length schema.types
     → (type_no schema (type_name schema k) ≡ Some k) × (is_name (type_name schema k) ≡ true)
 type_found schema kept k h =
-    let at : slice_get (type_names schema) k ≡ Some (type_name schema k) = entry (λ (t : TypeDef). t.name) schema.types k h in
-    (placed_at [] (type_names schema) k (type_name schema k) kept.types_apart at ∙ ap Some (zero-add k),
-    passes_at is_name (type_names schema) k (type_name schema k) kept.types_named at)
+    let at : slice_get (type_names schema) k ≡ Some (type_name schema k) = entry (λ (t : TypeDef). t.name) schema.types k h in (
+      placed_at [] (type_names schema) k (type_name schema k) kept.types_apart at ∙ ap Some (zero-add k),
+      passes_at is_name (type_names schema) k (type_name schema k) kept.types_named at,
+    )
 
 -- and they have the names that they were found by
 pub vertical_has_name : (schema : Declarations) (name : List ℕ) (k : ℕ) → vertical_no schema name ≡ Some k → vertical_name schema k ≡ name

@@ -41,9 +41,10 @@ entity_read format (a ∷ b ∷ c ∷ []) written e = by (name_of a) (id_of b) (
         let named = name_read a v is-v in
         let id = between_read 1 18446744073709551615 b i (omega arith) is-i in
         let rank = between_read 0 4294967295 c r (omega arith) is-r in
-        subst (Writes format (codes "entity" ∷ a ∷ b ∷ c ∷ [])) one
-        (ap (λ x. codes "entity" ∷ x ∷ b ∷ c ∷ []) named.0 ∙ ap (λ x. codes "entity" ∷ v ∷ x ∷ c ∷ []) id.0 ∙ ap (λ x. codes "entity" ∷ v ∷ decimal i ∷ x ∷ []) rank.0,
-        both_true (both_true named.1 id.1) rank.1)
+        subst (Writes format (codes "entity" ∷ a ∷ b ∷ c ∷ [])) one (
+          ap (λ x. codes "entity" ∷ x ∷ b ∷ c ∷ []) named.0 ∙ ap (λ x. codes "entity" ∷ v ∷ x ∷ c ∷ []) id.0 ∙ ap (λ x. codes "entity" ∷ v ∷ decimal i ∷ x ∷ []) rank.0,
+          both_true (both_true named.1 id.1) rank.1,
+        )
 entity_read format (a ∷ b ∷ c ∷ d ∷ fields) written e = cc
 
 gone_read : (format : ℕ) (fields : List (List ℕ)) (written : WrittenLine) → gone_in fields ≡ Some written → Writes format (codes "gone" ∷ fields) written
@@ -81,13 +82,14 @@ edge_read format (a ∷ b ∷ c ∷ d ∷ end) written e = by (name_of a) (word_
         let target = between_read 1 18446744073709551615 c t (omega arith) is-t in
         let audience = audience_read d s is-s in
         let until = until_read format end u is-u in
-        subst (Writes format (codes "edge" ∷ a ∷ b ∷ c ∷ d ∷ end)) one
-        (ap (λ x. codes "edge" ∷ x ∷ b ∷ c ∷ d ∷ end) named.0
-        ∙ ap (λ x. codes "edge" ∷ n ∷ x ∷ c ∷ d ∷ end) key.0
-        ∙ ap (λ x. codes "edge" ∷ n ∷ k ∷ x ∷ d ∷ end) target.0
-        ∙ ap (λ x. codes "edge" ∷ n ∷ k ∷ decimal t ∷ x ∷ end) audience.0
-        ∙ ap (λ x. codes "edge" ∷ n ∷ k ∷ decimal t ∷ audience_text s ∷ x) until.0,
-        both_true (both_true (both_true (both_true named.1 key.1) target.1) audience.1) until.1)
+        subst (Writes format (codes "edge" ∷ a ∷ b ∷ c ∷ d ∷ end)) one (
+          ap (λ x. codes "edge" ∷ x ∷ b ∷ c ∷ d ∷ end) named.0
+              ∙ ap (λ x. codes "edge" ∷ n ∷ x ∷ c ∷ d ∷ end) key.0
+              ∙ ap (λ x. codes "edge" ∷ n ∷ k ∷ x ∷ d ∷ end) target.0
+              ∙ ap (λ x. codes "edge" ∷ n ∷ k ∷ decimal t ∷ x ∷ end) audience.0
+              ∙ ap (λ x. codes "edge" ∷ n ∷ k ∷ decimal t ∷ audience_text s ∷ x) until.0,
+          both_true (both_true (both_true (both_true named.1 key.1) target.1) audience.1) until.1,
+        )
 
 cut_read : (format : ℕ) (fields : List (List ℕ)) (written : WrittenLine) → cut_in fields ≡ Some written → Writes format (codes "cut" ∷ fields) written
 cut_read format [] written e = cc
@@ -105,9 +107,10 @@ cut_read format (a ∷ b ∷ c ∷ []) written e = by (name_of a) (word_of b) (i
         let named = name_read a n is-n in
         let key = word_read b k is-k in
         let target = between_read 1 18446744073709551615 c t (omega arith) is-t in
-        subst (Writes format (codes "cut" ∷ a ∷ b ∷ c ∷ [])) one
-        (ap (λ x. codes "cut" ∷ x ∷ b ∷ c ∷ []) named.0 ∙ ap (λ x. codes "cut" ∷ n ∷ x ∷ c ∷ []) key.0 ∙ ap (λ x. codes "cut" ∷ n ∷ k ∷ x ∷ []) target.0,
-        both_true (both_true named.1 key.1) target.1)
+        subst (Writes format (codes "cut" ∷ a ∷ b ∷ c ∷ [])) one (
+          ap (λ x. codes "cut" ∷ x ∷ b ∷ c ∷ []) named.0 ∙ ap (λ x. codes "cut" ∷ n ∷ x ∷ c ∷ []) key.0 ∙ ap (λ x. codes "cut" ∷ n ∷ k ∷ x ∷ []) target.0,
+          both_true (both_true named.1 key.1) target.1,
+        )
 cut_read format (a ∷ b ∷ c ∷ d ∷ fields) written e = cc
 
 publish_read : (format : ℕ) (fields : List (List ℕ)) (written : WrittenLine) → publish_in fields ≡ Some written → Writes format (codes "publish" ∷ fields) written
@@ -226,8 +229,10 @@ only schema line (Err BadLine) none = by (written_of schema.format line) refl
     by (Some written) is = absurd (none written (spells schema.format line written is))
 
 pub lines_by_text : LinesByText
-lines_by_text = record { is = λ schema line read.
-    (λ e. subst (ReadsAs schema line) e (answers schema line (written_of schema.format line) refl), only schema line read) }
+lines_by_text = record {
+  is = λ schema line read.
+      (λ e. subst (ReadsAs schema line) e (answers schema line (written_of schema.format line) refl), only schema line read);
+}
 
 -- so what was read off a line is exactly that
 pub exactly : (schema : Declarations) (line : List ℕ) (result : Result FeedLine LineFault) → result ≡ feed_line_of schema line

@@ -5,8 +5,11 @@ use Rattle.feed_reader.specs.Examples.{WorkedLines}
 pub worked_lines : WorkedLines
 worked_lines = record {
   entity = refl;
+  photo = refl;
   gone = refl;
   edge = refl;
+  no_target = refl;
+  no_source = refl;
   word = refl;
   circle = refl;
   cut = refl;
@@ -15,6 +18,7 @@ worked_lines = record {
   no_type = refl;
   no_circle = refl;
   no_id = refl;
+  form_first = refl;
   leading_zero = refl;
   two_spaces = refl;
   no_key = refl;
@@ -23,5 +27,6 @@ worked_lines = record {
   until_none = refl;
   until_past = refl;
   until_unknown = refl;
+  compact = refl;
   other = refl;
 }

@@ -12,6 +12,8 @@ mod names;
 mod number;
 mod print;
 mod read;
+#[cfg(test)]
+mod tests;
 
 pub use fault::LineFault;
 pub use line::FeedLine;
