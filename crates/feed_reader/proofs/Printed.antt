@@ -1,11 +1,10 @@
 -- The text of a line is read as that line, and the line that was read off a text has that text.
-use Rattle.std.proofs.Common.{◌≡◌, ℕ, zero, suc, ◌+◌, ◌^◌, ◌<◌, ◌≤◌, ◌==◌, ◌&&◌, nat_le, Bool, true, false, if◌then◌else◌, List, Option, None, Some, Result, Ok, Err, refl, ap, sym, subst, ◌∙◌, arith, length, unwrap_or}
+use Rattle.std.proofs.Common.{◌≡◌, ℕ, zero, suc, ◌^◌, ◌<◌, ◌≤◌, ◌==◌, ◌&&◌, Bool, true, false, if◌then◌else◌, List, Option, None, Some, Ok, refl, ap, sym, ◌∙◌, arith, length, unwrap_or}
 use Rattle.std.specs.Cmp.Derive.{both_true}
 use Rattle.std.specs.Option.{option_map, option_and_then}
 use Rattle.std.proofs.lemmas.Bool.{and_parts}
 use Rattle.std.proofs.lemmas.Bool.Decides.{nat_tests}
 use Rattle.uni_base.specs.Words.{is_word}
-use Rattle.uni_schema.specs.Print.{vertical_name}
 use Rattle.uni_schema.specs.Schema.{Declarations, IsSchema, is_name, vertical_no, type_no}
 use Rattle.uni_table.specs.Commands.{IsDeclaredAudience}
 use Rattle.uni_table.specs.declared.command.AudienceText.{AudienceText}

@@ -1,6 +1,5 @@
 -- Worked lines.
 use Rattle.std.specs.Prelude.{ℕ, ◌≡◌, List, Result, Ok, Err, codes}
-use Rattle.uni_schema.specs.Schema.{Declarations}
 use Rattle.uni_table.specs.Example.{social}
 use Rattle.uni_table.specs.declared.command.AudienceText.TheVariants.{Public, Only, Circle}
 use Rattle.uni_table.specs.declared.command.Command.TheVariants.{Entity, Gone, Edge, Cut}

@@ -1,10 +1,10 @@
 -- What the parts of a line give, where a text that is of no form makes the line bad.
 use Rattle.std.specs.Prelude.{ℕ, List, [], ◌∷◌, ◌++◌, Option, None, Some, Result, Ok, Err}
-use Rattle.std.specs.Option.{option_map, option_map_or}
+use Rattle.std.specs.Option.{option_map}
 use Rattle.uni_schema.specs.Lines.{name_of}
 use Rattle.uni_schema.specs.Schema.{Declarations}
 use Rattle.uni_table.specs.declared.command.AudienceText.{AudienceText}
-use Rattle.feed_reader.specs.FeedText.{WrittenAudience, audience_meant}
+use Rattle.feed_reader.specs.FeedText.{audience_meant}
 use Rattle.feed_reader.specs.Reading.{audience_in}
 use Rattle.feed_reader.specs.declared.fault.LineFault.{LineFault}
 use Rattle.feed_reader.specs.declared.fault.LineFault.TheVariants.{BadLine}

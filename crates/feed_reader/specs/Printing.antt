@@ -1,5 +1,5 @@
 -- Lines whose numbers are those of a schema, and their text under it.
-use Rattle.std.specs.Prelude.{ℕ, Bool, true, ◌≡◌, ◌<◌, ◌^◌, ◌==◌, if◌then◌else◌, List, [], Option, None, Some, Ok, ⊤}
+use Rattle.std.specs.Prelude.{ℕ, true, ◌≡◌, ◌<◌, ◌^◌, ◌==◌, if◌then◌else◌, List, [], Option, None, Some, Ok, ⊤}
 use Rattle.std.specs.Option.{option_map_or}
 use Rattle.uni_base.specs.Words.{is_word}
 use Rattle.uni_schema.specs.Print.{vertical_name}

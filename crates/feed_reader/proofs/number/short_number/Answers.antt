@@ -1,4 +1,4 @@
-use Rattle.std.proofs.Common.{arith, ◌<◌, ◌^◌, length, sym, get_or}
+use Rattle.std.proofs.Common.{arith, ◌<◌, length, sym, get_or}
 use Rattle.feed_reader.proofs.Digits.{digit-known, value_more, digits_more, small_more, roomy}
 use Rattle.feed_reader.proofs.number.short_number.Goals as goal
 

@@ -1,4 +1,4 @@
-use Rattle.std.proofs.Common.{rules, arith, ◌≡◌, Ok, Err, ◌∷◌, []}
+use Rattle.std.proofs.Common.{arith}
 use Rattle.std.proofs.lemmas.Grind.{common_steps}
 use Rattle.feed_reader.proofs.Forms.{cut_target}
 use Rattle.feed_reader.proofs.read.read_cut.Goals as goal

@@ -1,4 +1,4 @@
-use Rattle.std.proofs.Common.{ap, sym, ◌∙◌}
+use Rattle.std.proofs.Common.{ap, ◌∙◌}
 use Rattle.feed_reader.specs.Reading.{answer, written_in}
 use Rattle.feed_reader.proofs.Texts.{exactly}
 use Rattle.feed_reader.proofs.read.read_next_feed_line.Goals as goal
