@@ -43,7 +43,8 @@ pub(crate) fn read_audience(
 
 // `until PUBLISH` or nothing, at the end of an edge. None is 0.
 pub(crate) fn read_until(schema: &Schema, mut fields: Fields<'_>) -> Result<u64, LineFault>
-    ensures { result ≡ told (option_map (λ until. unwrap_or until 0) (until_in schema.now.format fields.entry)) }
+    ensures { result ≡ told (option_map (λ until. unwrap_or until 0)
+        (until_in schema.now.format fields.entry)) }
 {
     let Some(word) = fields.next() else {
         return Ok(0);

@@ -44,7 +44,8 @@ impl LastNames {
     ) -> Result<Option<u16>, LineFault>
         requires { AreOf schema.now self.old }
         ensures number { result ≡ number_told (vertical_no schema.now) text.now }
-        ensures within { IfOk result (λ number. IfSome number (λ n. n < length schema.now.verticals)) }
+        ensures within { IfOk result (λ number.
+            IfSome number (λ n. n < length schema.now.verticals)) }
         ensures kept { AreOf schema.now self.new }
     {
         if let Some(number) = last_number(&self.vertical, text) {
@@ -62,7 +63,8 @@ impl LastNames {
     pub(crate) fn type_no(&mut self, schema: &Schema, text: &[u8]) -> Result<Option<u16>, LineFault>
         requires { AreOf schema.now self.old }
         ensures number { result ≡ number_told (type_no schema.now) text.now }
-        ensures within { IfOk result (λ number. IfSome number (λ n. n < length schema.now.types)) }
+        ensures within { IfOk result (λ number.
+            IfSome number (λ n. n < length schema.now.types)) }
         ensures kept { AreOf schema.now self.new }
     {
         type_by(&mut self.edge_type, schema, text)
@@ -76,7 +78,8 @@ impl LastNames {
     ) -> Result<Option<u16>, LineFault>
         requires { AreOf schema.now self.old }
         ensures number { result ≡ number_told (type_no schema.now) text.now }
-        ensures within { IfOk result (λ number. IfSome number (λ n. n < length schema.now.types)) }
+        ensures within { IfOk result (λ number.
+            IfSome number (λ n. n < length schema.now.types)) }
         ensures kept { AreOf schema.now self.new }
     {
         type_by(&mut self.circle, schema, text)
@@ -87,7 +90,8 @@ impl LastNames {
 fn type_by(last: &mut Option<Found>, schema: &Schema, text: &[u8]) -> Result<Option<u16>, LineFault>
     requires { IsFoundBy (type_no schema.now) last.old }
     ensures number { result ≡ number_told (type_no schema.now) text.now }
-    ensures within { IfOk result (λ number. IfSome number (λ n. n < length schema.now.types)) }
+    ensures within { IfOk result (λ number.
+        IfSome number (λ n. n < length schema.now.types)) }
     ensures kept { IsFoundBy (type_no schema.now) last.new }
 {
     if let Some(number) = last_number(last, text) {

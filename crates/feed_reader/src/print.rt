@@ -19,7 +19,8 @@ pub fn print_feed_line(alloc: Global, schema: &Schema, line: &FeedLine) -> Resul
     requires declared { LineIsDeclared schema.now line.now }
     requires until { HasUntil schema.now line.now }
     ensures text { IfOk result (λ text. text ≡ line_text schema.now line.now) }
-    ensures again { HasIds line.now → IfOk result (λ text. feed_line_of schema.now text ≡ Ok line.now) }
+    ensures again { HasIds line.now
+        → IfOk result (λ text. feed_line_of schema.now text ≡ Ok line.now) }
 {
     // Every schema tells its names apart, so that the text names what the line does.
     let _format = schema.format();
@@ -43,7 +44,8 @@ fn add_line(text: &mut Text, schema: &Schema, line: &FeedLine) -> Result<(), All
 // Adds the text of a change.
 fn add_command(text: &mut Text, schema: &Schema, command: &Command) -> Result<(), AllocError>
     requires { IsDeclared schema.now command.now }
-    ensures text { OnOk result (text.new ≡ text.old ++ written_text (command_written schema.now command.now)) }
+    ensures text { OnOk result
+        (text.new ≡ text.old ++ written_text (command_written schema.now command.now)) }
     ensures fits { OnOk result (FitsFields command.now) }
 {
     match command {
@@ -87,7 +89,8 @@ fn add_command(text: &mut Text, schema: &Schema, command: &Command) -> Result<()
 // Adds a space and an audience.
 fn add_audience(text: &mut Text, schema: &Schema, audience: &AudienceText) -> Result<(), AllocError>
     requires { IsDeclaredAudience schema.now audience.now }
-    ensures text { OnOk result (text.new ≡ text.old ++ 32 ∷ audience_text (audience_written schema.now audience.now)) }
+    ensures text { OnOk result
+        (text.new ≡ text.old ++ 32 ∷ audience_text (audience_written schema.now audience.now)) }
     ensures word { OnOk result (HasWord audience.now) }
 {
     match audience {

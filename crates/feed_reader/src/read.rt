@@ -18,7 +18,8 @@ use uni_table::Command;
 /// of one but for a name that is not declared is `UnknownName`; and any other line is `BadLine`. Takes no
 /// memory.
 pub fn read_feed_line(schema: &Schema, line: &[u8]) -> Result<FeedLine, LineFault>
-    ensures exact { (read : Result FeedLine LineFault) → (result ≡ read) ↔ ReadsAs schema.now line.now read }
+    ensures exact { (read : Result FeedLine LineFault)
+        → (result ≡ read) ↔ ReadsAs schema.now line.now read }
     ensures line { result ≡ feed_line_of schema.now line.now }
     ensures declared { IfOk result (LineIsDeclared schema.now) }
     ensures until { IfOk result (HasUntil schema.now) }
@@ -33,7 +34,8 @@ pub fn read_next_feed_line(
     line: &[u8],
 ) -> Result<FeedLine, LineFault>
     requires { AreOf schema.now names.old }
-    ensures exact { (read : Result FeedLine LineFault) → (result ≡ read) ↔ ReadsAs schema.now line.now read }
+    ensures exact { (read : Result FeedLine LineFault)
+        → (result ≡ read) ↔ ReadsAs schema.now line.now read }
     ensures line { result ≡ feed_line_of schema.now line.now }
     ensures declared { IfOk result (LineIsDeclared schema.now) }
     ensures until { IfOk result (HasUntil schema.now) }
