@@ -1,0 +1,15 @@
+mod Asked
+mod ByText
+mod Fields
+mod Fronts
+mod HeaderSteps
+mod Numbering
+mod Opening
+mod ReadSteps
+mod RoleSteps
+mod RoundLoop
+mod RoundSteps
+mod RoundsRead
+mod Searches
+mod Whole
+mod Words

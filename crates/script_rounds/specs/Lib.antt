@@ -1,0 +1,13 @@
+pub mod Terms
+pub mod Lines
+pub mod Reading
+pub mod Entries
+pub mod Asks
+pub mod Compacts
+pub mod Roles
+pub mod Fits
+pub mod Rounds
+pub mod RoundReads
+pub mod Headers
+pub mod RoundsState
+pub mod Laws
