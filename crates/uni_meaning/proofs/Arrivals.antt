@@ -1,12 +1,11 @@
 -- What edges from the members of a join's cut bring to their targets.
-use Rattle.std.proofs.Common.{◌≡◌, ◌<◌, ◌==◌, ◌||◌, ◌⊎◌, inl, inr, ℕ, Bool, true, false, if◌then◌else◌, List, [], ◌∷◌, Option, None, Some, is_some, refl, sym, ◌∙◌, ap, subst, arith, length, map}
+use Rattle.std.proofs.Common.{◌≡◌, ◌<◌, ◌==◌, ◌||◌, ◌⊎◌, inl, inr, ℕ, Bool, true, false, if◌then◌else◌, List, [], ◌∷◌, Option, None, Some, is_some, refl, sym, ◌∙◌, ap, arith, length, map}
 use Rattle.std.proofs.lemmas.Bool.Decides.{nat_tests}
 use Rattle.std.specs.List.{Contains, list_any}
 use Rattle.std.specs.Option.{option_map}
 use Rattle.uni_base.specs.declared.edge.EdgeRef.{EdgeRef}
 use Rattle.uni_base.specs.declared.edge.Held.{Held}
 use Rattle.uni_base.specs.declared.edge.Key.{Key}
-use Rattle.uni_base.specs.declared.edge.Key.TheVariants.{Id}
 use Rattle.uni_base.specs.declared.limits.Limits.{Limits}
 use Rattle.uni_table.specs.Contents.{edge_at, has_edge}
 use Rattle.uni_table.specs.Ranked.{reached_of}
@@ -16,7 +15,7 @@ use Rattle.uni_table.proofs.Exact.{reached_is_exact}
 use Rattle.uni_table.proofs.Listed.{none_in_nil, first_or_later, first_is, later_is}
 use Rattle.uni_meaning.specs.Hits.{edge_to}
 use Rattle.uni_meaning.specs.Policy.{authorised}
-use Rattle.uni_meaning.specs.Standings.{arrival, by_edge, by_member, either, first_of, is_found, is_shown}
+use Rattle.uni_meaning.specs.Standings.{arrival, by_member, either, first_of, is_found, is_shown}
 use Rattle.uni_meaning.specs.Viewed.{Viewed}
 use Rattle.uni_meaning.specs.declared.cut.Member.{Member}
 use Rattle.uni_meaning.specs.declared.standing.Standing.{Standing}

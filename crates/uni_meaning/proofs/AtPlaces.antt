@@ -1,5 +1,5 @@
 -- What is read at the places of lists.
-use Rattle.std.proofs.Common.{◌≡◌, ℕ, zero, suc, ◌+◌, Bool, true, false, eqb, ◌==◌, ◌&&◌, if◌then◌else◌, List, [], ◌∷◌, ◌++◌, Some, ◌||◌, ◌<◌, refl, sym, ◌∙◌, ap, subst, append_assoc, append-nil, arith, drop, drop-cons, get_or, length, slice_get}
+use Rattle.std.proofs.Common.{◌≡◌, ℕ, zero, suc, ◌+◌, Bool, true, false, eqb, ◌==◌, ◌&&◌, if◌then◌else◌, List, [], ◌∷◌, ◌++◌, Some, ◌||◌, ◌<◌, refl, sym, ◌∙◌, ap, append_assoc, append-nil, arith, drop, drop-cons, get_or, length, slice_get}
 use Rattle.std.specs.List.{flat_map, list_any, range_with_len, starts_with}
 use Rattle.uni_schema.specs.declared.schema.TypeDef.{TypeDef}
 use Rattle.uni_meaning.specs.Policy.{denials_from}

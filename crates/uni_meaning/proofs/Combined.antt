@@ -1,7 +1,6 @@
 -- How standings combine.
-use Rattle.std.proofs.Common.{◌≡◌, List, [], ◌∷◌, ◌++◌, refl, sym, ap, append_assoc}
-use Rattle.uni_base.specs.declared.edge.EdgeRef.{EdgeRef}
-use Rattle.uni_meaning.specs.Standings.{either, both, first_of, all_of}
+use Rattle.std.proofs.Common.{◌≡◌, refl, sym, ap, append_assoc}
+use Rattle.uni_meaning.specs.Standings.{either, both}
 use Rattle.uni_meaning.specs.declared.standing.Standing.{Standing}
 use Rattle.uni_meaning.specs.declared.standing.Standing.TheVariants.{Missed, Hidden, Shown}
 

@@ -1,11 +1,10 @@
 -- The hits of a plan among the entities of its vertical, and its cut.
-use Rattle.std.proofs.Common.{◌≡◌, ◌++◌, ◌+◌, ◌<◌, ◌≤◌, ◌&&◌, ◌||◌, ◌==◌, ◌⊎◌, inl, inr, ℕ, zero, suc, Bool, true, false, cond, if◌then◌else◌, List, [], ◌∷◌, Option, None, Some, refl, sym, ◌∙◌, ap, subst, arith, length, map, filter, take, get_or}
-use Rattle.std.proofs.lemmas.Bool.Decides.{nat_tests}
+use Rattle.std.proofs.Common.{◌≡◌, ◌++◌, ◌+◌, ◌<◌, ◌≤◌, ◌||◌, ◌==◌, ◌⊎◌, inl, inr, ℕ, zero, suc, Bool, true, false, cond, if◌then◌else◌, List, [], ◌∷◌, Option, None, Some, refl, sym, ◌∙◌, ap, subst, arith, length, map, filter, take, get_or}
 use Rattle.std.proofs.lemmas.List.{get_or-map, length-map, take-map}
 use Rattle.std.proofs.lemmas.List.Elements.{All-head, All-tail, All-cons}
 use Rattle.std.proofs.lemmas.List.Folds.{list_any-append}
 use Rattle.std.proofs.lemmas.List.Sorted.{IsPermutation-map, All-permutation}
-use Rattle.std.proofs.lemmas.Map.Keys.{IsDistinct-cons, IsDistinct-from_sorted}
+use Rattle.std.proofs.lemmas.Map.Keys.{IsDistinct-from_sorted}
 use Rattle.std.specs.List.{All, AllByRecursion, Contains, IsDistinct, flat_map, list_all, list_any, range_with_len}
 use Rattle.std.specs.List.Sorted.{IsPermutation, IsSorted, IsSortedByKey}
 use Rattle.std.specs.Ordering.{eq_by_cmp, is_eq, is_lt}
@@ -24,20 +23,19 @@ use Rattle.uni_table.proofs.Listed.{none_in_nil, first_or_later, first_is, later
 use Rattle.uni_table.proofs.Sharded.{in_order-is, shards_part}
 use Rattle.query_tree.specs.declared.kind.ListKind.{ListKind}
 use Rattle.query_tree.specs.declared.kind.ListKind.TheVariants.{And, Or, Difference, WeakAnd, StrongOr}
-use Rattle.query_check.specs.Plan.{Plan, Plans, term_plan, prefix_plan, list_plan, join_plan, no_plans, with_plan}
+use Rattle.query_check.specs.Plan.{Plan, term_plan, prefix_plan, list_plan, join_plan}
 use Rattle.uni_meaning.specs.Firsts.{first_shown}
 use Rattle.uni_meaning.specs.Hits.{cut, first_alone, first_vertical, hits, is_among, is_hit, kept_by, leads_to, operands, shards_of, target_of, vertical_of}
 use Rattle.uni_meaning.specs.Prefixes.{prefix_keys}
-use Rattle.uni_meaning.specs.Standings.{found_members, is_found, member_of, members_of, places_of, shown_as, shown_of, standing_of, standings_of}
+use Rattle.uni_meaning.specs.Standings.{found_members, is_found, member_of, members_of, places_of, shown_as, shown_of, standings_of}
 use Rattle.uni_meaning.specs.Viewed.{Viewed}
 use Rattle.uni_meaning.specs.declared.cut.Member.{Member}
 use Rattle.uni_meaning.specs.declared.place.Place.{Place}
 use Rattle.uni_meaning.specs.declared.standing.Standing.{Standing}
-use Rattle.uni_meaning.specs.declared.standing.Standing.TheVariants.{Missed, Hidden, Shown}
+use Rattle.uni_meaning.specs.declared.standing.Standing.TheVariants.{Missed}
 use Rattle.uni_meaning.proofs.Arrivals.{any_from, found_by}
 use Rattle.uni_meaning.proofs.Members.{listed_by}
 use Rattle.uni_meaning.proofs.Prefixed.{agreed, among_left}
-use Rattle.uni_meaning.proofs.SetStandings.{found_is}
 use Rattle.uni_meaning.proofs.Typed.{in_its_shard}
 use Rattle.uni_meaning.proofs.WalkStandings.{AllApart, doc_keeps, doc_none, doc_step, doc_walk, walk_within}
 
@@ -134,7 +132,7 @@ module _ (v : Viewed) (limits : Limits) (kept : IsKept v.schema limits v.content
   hits_kept (join_plan kind number limit plan) shard = filter_kept (λ k. list_any (λ y. leads_to v.contents number (Id y.id) k) (cut v.schema v.contents plan limit)) (ranked v.schema v.contents (target_of v.schema number) shard)
 
   -- the entities of a shard that are hits are the hits of the shard
-  hits_are : (plan : Plan) (shard : ℕ) → filter (is_hit v.schema v.contents plan) (ranked v.schema v.contents (vertical_of v.schema plan) shard) ≡ hits v.schema v.contents plan shard
+  pub hits_are : (plan : Plan) (shard : ℕ) → filter (is_hit v.schema v.contents plan) (ranked v.schema v.contents (vertical_of v.schema plan) shard) ≡ hits v.schema v.contents plan shard
   hits_are plan shard =
       agreed (is_hit v.schema v.contents plan) (is_among (hits v.schema v.contents plan shard)) (ranked v.schema v.contents (vertical_of v.schema plan) shard)
       (λ x there. ap (λ n. is_among (hits v.schema v.contents plan n) x) (in_its_shard v.schema limits v.contents kept (vertical_of v.schema plan) shard x there))

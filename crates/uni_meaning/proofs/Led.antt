@@ -1,5 +1,5 @@
 -- Every hit has a lineage.
-use Rattle.std.proofs.Common.{◌≡◌, ◌++◌, ◌&&◌, ◌||◌, ◌⊎◌, inl, inr, not, ℕ, zero, suc, Bool, true, false, if◌then◌else◌, List, [], ◌∷◌, refl, sym, ◌∙◌, ap, subst, filter, take}
+use Rattle.std.proofs.Common.{◌≡◌, ◌++◌, ◌||◌, ◌⊎◌, inl, inr, not, ℕ, zero, suc, Bool, true, false, if◌then◌else◌, List, [], ◌∷◌, refl, sym, ◌∙◌, ap, subst, take}
 use Rattle.std.proofs.lemmas.Bool.{and_parts}
 use Rattle.std.specs.List.{Contains, list_all, list_any, range_with_len, flat_map}
 use Rattle.std.specs.Ordering.{is_eq, is_lt}
@@ -32,7 +32,7 @@ use Rattle.uni_meaning.proofs.SetStandings.{found_is, is_all, is_alone, is_any, 
 use Rattle.uni_meaning.proofs.Typed.{in_its_shard, list_of, vertical_is}
 
 -- what is among the first items is among the items
-in_first : (n : ℕ) (xs : List DocKey) (x : DocKey) → Contains (take n xs) x → Contains xs x
+pub in_first : (n : ℕ) (xs : List DocKey) (x : DocKey) → Contains (take n xs) x → Contains xs x
 in_first zero xs x there = absurd (none_in_nil x there)
 in_first (suc n) [] x there = absurd (none_in_nil x there)
 in_first (suc n) (y ∷ xs) x there = by (first_or_later y (take n xs) x there) (in_first n xs x)
@@ -93,11 +93,11 @@ module _ (v : Viewed) (kept : IsKept v.schema v.limits v.contents) where
   Led plan x = (edges : List EdgeRef) × IsLineage v.schema v.contents plan x edges
 
   -- a list is of the vertical of its first operand
-  of_first : (kind : ListKind) (plans : Plans) (vertical : ℕ) → IsOf v.schema (list_plan kind plans) vertical → AreOf v.schema plans (first_vertical v.schema plans)
+  pub of_first : (kind : ListKind) (plans : Plans) (vertical : ℕ) → IsOf v.schema (list_plan kind plans) vertical → AreOf v.schema plans (first_vertical v.schema plans)
   of_first kind plans vertical of =
       subst (AreOf v.schema plans) (sym (vertical_is v.schema (list_plan kind plans) vertical of)) (list_of v.schema kind plans vertical of)
 
-  found_hit : (plan : Plan) (x : DocKey) → is_found (standing_of v plan x) ≡ is_hit v.schema v.contents plan x
+  pub found_hit : (plan : Plan) (x : DocKey) → is_found (standing_of v plan x) ≡ is_hit v.schema v.contents plan x
   found_hit plan x = found_is (is_hit v.schema v.contents plan x) (first_shown v.schema v.contents v.viewer plan x)
 
   -- a lineage under an operand, where it has the entity

@@ -18,6 +18,7 @@ mod SeenNodes
 mod SetStandings
 mod StandingOf
 mod Typed
+pub mod Unsharded
 mod WalkStandings
 mod Walked
 mod WalkedShards

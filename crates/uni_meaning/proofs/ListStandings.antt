@@ -1,9 +1,9 @@
 -- How entities stand under lists, by the columns of their operands.
-use Rattle.std.proofs.Common.{◌≡◌, ◌++◌, ◌+◌, ◌<◌, ◌||◌, ℕ, zero, suc, Bool, true, false, if◌then◌else◌, List, [], ◌∷◌, Option, None, Some, refl, sym, ◌∙◌, ap, subst, arith, length, map, drop, get_or, slice_get, All}
+use Rattle.std.proofs.Common.{◌≡◌, ◌+◌, ◌||◌, ℕ, zero, suc, Bool, true, false, if◌then◌else◌, List, [], ◌∷◌, Some, refl, sym, ◌∙◌, ap, arith, length, map, drop, get_or, slice_get, All}
 use Rattle.std.proofs.lemmas.List.{get_or-map, length-map}
 use Rattle.std.proofs.lemmas.List.Elements.{All-cons}
 use Rattle.std.proofs.lemmas.Option.{get_or_from_slice_get, slice_get_within}
-use Rattle.std.specs.List.{Contains, flat_map, list_any, range_with_len}
+use Rattle.std.specs.List.{Contains, list_any}
 use Rattle.uni_base.specs.Walks.{Walker}
 use Rattle.uni_base.specs.declared.entity.DocKey.{DocKey}
 use Rattle.uni_base.specs.declared.limits.Limits.{Limits}
@@ -14,11 +14,11 @@ use Rattle.uni_table.proofs.Listed.{first_is, later_is}
 use Rattle.query_tree.specs.declared.kind.ListKind.{ListKind}
 use Rattle.query_tree.specs.declared.kind.ListKind.TheVariants.{And, Or, Difference, WeakAnd, StrongOr}
 use Rattle.query_tree.specs.declared.query.Mark.{Mark}
-use Rattle.query_check.specs.Plan.{Plan, Plans, SeenOperand, list_plan, no_plans, with_plan, plans_of}
-use Rattle.query_check.specs.Verticals.{AreOf, IsOf}
+use Rattle.query_check.specs.Plan.{Plans, SeenOperand, list_plan, plans_of}
+use Rattle.query_check.specs.Verticals.{AreOf}
 use Rattle.uni_meaning.specs.Firsts.{shown_under_having, shown_under_one}
 use Rattle.uni_meaning.specs.Hits.{quota_of, first_vertical, is_among, is_hit, operands, shards_of}
-use Rattle.uni_meaning.specs.Standings.{all_of, columns_of, first_of, hit_by, is_found, is_set, places_of, row_at, seen_column, shown_as, standing_of, standings_of, under_set}
+use Rattle.uni_meaning.specs.Standings.{columns_of, hit_by, is_found, is_set, places_of, row_at, seen_column, shown_as, standing_of, standings_of}
 use Rattle.uni_meaning.specs.Viewed.{Viewed}
 use Rattle.uni_meaning.specs.Walking.{before_all, fresh_counters, walk_standings}
 use Rattle.uni_meaning.specs.declared.column.Column.{Column}
@@ -26,9 +26,9 @@ use Rattle.uni_meaning.specs.declared.place.Place.{Place}
 use Rattle.uni_meaning.specs.declared.standing.Standing.{Standing}
 use Rattle.uni_meaning.specs.declared.standing.Standing.TheVariants.{Missed}
 use Rattle.uni_meaning.proofs.Cuts.{shard_apart}
-use Rattle.uni_meaning.proofs.SetStandings.{all_of-row, first_of-row, found_row, has_row, row_of, set_standing}
-use Rattle.uni_meaning.proofs.Typed.{at_home, in_its_shard, place_is}
-use Rattle.uni_meaning.proofs.WalkStandings.{Agrees, Alike, by_kept, doc_walk, walk_found}
+use Rattle.uni_meaning.proofs.SetStandings.{all_of-row, first_of-row, found_row, has_row, row_of}
+use Rattle.uni_meaning.proofs.Typed.{in_its_shard, place_is}
+use Rattle.uni_meaning.proofs.WalkStandings.{Agrees, Alike, doc_walk, walk_found}
 use Rattle.uni_meaning.proofs.WalkedShards.{by_walk, in_all}
 
 same_heads : {X : Type 0} (x y : X) (xs ys : List X) → x ∷ xs ≡ y ∷ ys → x ≡ y

@@ -1,5 +1,5 @@
 -- How the entities of a vertical stand, plan by plan, and what is seen of operands.
-use Rattle.std.proofs.Common.{◌≡◌, ◌++◌, ◌+◌, ◌<◌, ◌≤◌, ℕ, zero, suc, true, List, [], ◌∷◌, Some, refl, sym, ◌∙◌, ap, subst, arith, length, map, get_or, slice_get, take}
+use Rattle.std.proofs.Common.{◌≡◌, ◌++◌, ◌+◌, ◌<◌, ◌≤◌, ℕ, zero, suc, true, List, [], ◌∷◌, Some, refl, sym, ◌∙◌, ap, subst, arith, length, map, get_or, slice_get}
 use Rattle.std.proofs.lemmas.Option.{slice_get-get_or, slice_get-map}
 use Rattle.std.specs.List.{Contains, range_with_len}
 use Rattle.std.specs.Option.{option_map}
@@ -20,11 +20,10 @@ use Rattle.uni_meaning.specs.Standings.{columns_of, is_set, members_of, places_o
 use Rattle.uni_meaning.specs.Viewed.{Viewed}
 use Rattle.uni_meaning.specs.declared.column.Column.{Column}
 use Rattle.uni_meaning.specs.declared.place.Place.{Place}
-use Rattle.uni_meaning.specs.declared.standing.Standing.{Standing}
 use Rattle.uni_meaning.proofs.ListStandings.{map_places, row_is}
 use Rattle.uni_meaning.proofs.PrefixStandings.{prefix_standing}
 use Rattle.uni_meaning.proofs.SeenNodes.{plan_size, plans_size}
-use Rattle.uni_meaning.proofs.SetStandings.{row_of, set_standing}
+use Rattle.uni_meaning.proofs.SetStandings.{set_standing}
 use Rattle.uni_meaning.proofs.StandingOf.{join_standing, term_standing}
 use Rattle.uni_meaning.proofs.Typed.{at_home}
 

@@ -3,14 +3,11 @@ use Rattle.std.proofs.Common.{◌≡◌, ◌&&◌, ◌||◌, ◌==◌, ◌⊎◌
 use Rattle.std.proofs.lemmas.Bool.{and_parts}
 use Rattle.std.proofs.lemmas.Bool.Decides.{nat_tests}
 use Rattle.std.proofs.lemmas.Map.Keys.{sorted_head, sorted_tail}
-use Rattle.std.proofs.lemmas.Map.Made.{is_some-lookup}
-use Rattle.std.specs.BTreeMap.{is_at}
-use Rattle.std.specs.Cmp.{nat_cmp_total}
 use Rattle.std.specs.List.{AllByRecursion, Contains, cons_option, dedup, dedup_from, filter_map, list_any}
 use Rattle.std.specs.List.Sorted.{IsStrictlySortedBy}
-use Rattle.std.specs.Map.{keys_of, lookup}
+use Rattle.std.specs.Map.{keys_of}
 use Rattle.std.specs.Option.{option_map, option_map_or, option_and_then, option_or}
-use Rattle.std.specs.Ordering.{nat_cmp, is_eq, ordering_then, ordering_reverse}
+use Rattle.std.specs.Ordering.{nat_cmp, ordering_then, ordering_reverse}
 use Rattle.std.specs.declared.cmp.Ordering.{Ordering}
 use Rattle.std.specs.declared.cmp.Ordering.TheVariants.{Less, Equal, Greater}
 use Rattle.uni_base.specs.EdgeOrder.{edge_cmp, key_cmp, key_cmp-total}
@@ -36,7 +33,6 @@ use Rattle.uni_meaning.specs.Policy.{authorised}
 use Rattle.uni_meaning.specs.Prefixes.{begins_with, prefix_keys, word_of}
 use Rattle.uni_meaning.specs.Standings.{by_word, first_of, is_from, is_word_from, shown_as, standing_of, under_prefix}
 use Rattle.uni_meaning.specs.Viewed.{Viewed}
-use Rattle.uni_meaning.specs.declared.standing.Standing.{Standing}
 use Rattle.uni_meaning.specs.declared.standing.Standing.TheVariants.{Missed, Hidden, Shown}
 use Rattle.uni_meaning.proofs.Arrivals.{any_from, found_by, same_tests}
 use Rattle.uni_meaning.proofs.FirstFound.{first_of-given}

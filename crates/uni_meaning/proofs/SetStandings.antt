@@ -1,8 +1,8 @@
 -- How an entity stands under lists.
-use Rattle.std.proofs.Common.{◌≡◌, ◌++◌, ◌&&◌, ◌||◌, not, ℕ, Bool, true, false, if◌then◌else◌, List, [], ◌∷◌, Option, None, Some, refl, sym, ◌∙◌, ap, subst, append-nil, map, filter}
+use Rattle.std.proofs.Common.{◌≡◌, ◌&&◌, ◌||◌, not, ℕ, Bool, true, false, if◌then◌else◌, List, [], ◌∷◌, Option, None, Some, refl, sym, ◌∙◌, ap, append-nil, map}
 use Rattle.std.proofs.lemmas.Bool.{and_parts}
 use Rattle.std.specs.List.{Contains, list_all, list_any}
-use Rattle.std.specs.Option.{option_map, option_and_then, option_or}
+use Rattle.std.specs.Option.{option_or}
 use Rattle.uni_base.specs.Walks.{Walker}
 use Rattle.uni_base.specs.declared.edge.EdgeRef.{EdgeRef}
 use Rattle.uni_base.specs.declared.entity.DocKey.{DocKey}
@@ -13,7 +13,7 @@ use Rattle.query_tree.specs.declared.kind.ListKind.TheVariants.{And, Or, Differe
 use Rattle.query_check.specs.Plan.{Plan, Plans, list_plan, no_plans, with_plan}
 use Rattle.query_check.specs.Verticals.{AreOf, IsOf}
 use Rattle.uni_meaning.specs.Firsts.{first_shown, joined, shown_under_each, shown_under_having, shown_under_one, shown_under_first}
-use Rattle.uni_meaning.specs.Hits.{first_alone, first_vertical, hits, is_among, is_hit, operands, vertical_of}
+use Rattle.uni_meaning.specs.Hits.{first_alone, first_vertical, hits, is_among, is_hit, operands}
 use Rattle.uni_meaning.specs.Standings.{all_of, both, either, first_of, first_only, head_of, is_found, is_set, shown_as, standing_of, under_set}
 use Rattle.uni_meaning.specs.Viewed.{Viewed}
 use Rattle.uni_meaning.specs.declared.standing.Standing.{Standing}

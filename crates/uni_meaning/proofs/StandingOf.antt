@@ -1,5 +1,5 @@
 -- How an entity stands under terms and joins.
-use Rattle.std.proofs.Common.{◌≡◌, ◌&&◌, ℕ, Bool, true, false, if◌then◌else◌, List, [], ◌∷◌, Option, None, Some, refl, sym, ◌∙◌, ap, map, filter}
+use Rattle.std.proofs.Common.{◌≡◌, ◌&&◌, ℕ, Bool, true, false, if◌then◌else◌, List, [], ◌∷◌, Option, None, Some, refl, sym, ◌∙◌, ap, map}
 use Rattle.std.specs.List.{Contains, list_any}
 use Rattle.std.specs.Option.{option_map, option_and_then}
 use Rattle.uni_base.specs.declared.edge.EdgeRef.{EdgeRef}
@@ -13,7 +13,7 @@ use Rattle.query_check.specs.Plan.{Plan, term_plan, join_plan}
 use Rattle.uni_meaning.specs.Firsts.{first_given, first_shown, seen_edge}
 use Rattle.uni_meaning.specs.Hits.{cut, edge_to, leads_to, target_of}
 use Rattle.uni_meaning.specs.Policy.{authorised}
-use Rattle.uni_meaning.specs.Standings.{by_edge, by_member, first_of, member_of, members_of, shown_as, standing_of, through, under_join, under_term}
+use Rattle.uni_meaning.specs.Standings.{first_of, member_of, members_of, shown_as, standing_of, through, under_join, under_term}
 use Rattle.uni_meaning.specs.Viewed.{Viewed}
 use Rattle.uni_meaning.specs.declared.standing.Standing.{Standing}
 use Rattle.uni_meaning.specs.declared.standing.Standing.TheVariants.{Missed, Hidden, Shown}

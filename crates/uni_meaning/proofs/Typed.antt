@@ -18,7 +18,7 @@ use Rattle.uni_table.proofs.Sharded.{shards_part}
 use Rattle.query_tree.specs.declared.kind.ListKind.{ListKind}
 use Rattle.query_check.specs.Plan.{Plan, Plans, term_plan, prefix_plan, list_plan, join_plan, no_plans, with_plan}
 use Rattle.query_check.specs.Verticals.{AreOf, IsOf, IsType}
-use Rattle.uni_meaning.specs.Hits.{first_vertical, shards_of, target_of, vertical_of}
+use Rattle.uni_meaning.specs.Hits.{shards_of, target_of, vertical_of}
 use Rattle.uni_meaning.specs.Standings.{places_of}
 use Rattle.uni_meaning.specs.declared.place.Place.{Place}
 use Rattle.uni_meaning.proofs.Members.{left_by, listed_by, made_of}
@@ -50,7 +50,7 @@ module _ (schema : Declarations) where
   pub declared : (number : ℕ) (store : Store) (origin : Origin) (vertical : ℕ) → IsType schema number store origin vertical → number < length schema.types
   declared number store origin vertical is = slice_get_within schema.types number is.def is.declared
 
-  all_at : {X : Type 0} (p : X → Bool) (xs : List X) (n : ℕ) (x : X) → list_all p xs ≡ true → slice_get xs n ≡ Some x → p x ≡ true
+  pub all_at : {X : Type 0} (p : X → Bool) (xs : List X) (n : ℕ) (x : X) → list_all p xs ≡ true → slice_get xs n ≡ Some x → p x ≡ true
   all_at p [] n x all e = cc
   all_at p (y ∷ xs) zero x all e = let same : y ≡ x = cc in ap p (sym same) ∙ (and_parts (p y) (list_all p xs) all).0
   all_at p (y ∷ xs) (suc n) x all e = all_at p xs n x (and_parts (p y) (list_all p xs) all).1 e

@@ -1,11 +1,10 @@
 -- How entities stand under walks.
-use Rattle.std.proofs.Common.{◌≡◌, ◌++◌, ◌+◌, ◌<◌, ◌≤◌, ◌==◌, ◌&&◌, ◌||◌, ◌⊎◌, inl, inr, ℕ, zero, suc, Bool, true, false, if◌then◌else◌, List, [], ◌∷◌, Option, None, Some, refl, sym, ◌∙◌, ap, subst, append_assoc, append-nil, arith, length, map, filter, get_or, slice_get}
+use Rattle.std.proofs.Common.{◌≡◌, ◌+◌, ◌&&◌, ◌||◌, ℕ, Bool, true, false, if◌then◌else◌, List, [], ◌∷◌, refl, sym, ◌∙◌, ap, subst, map}
 use Rattle.std.proofs.lemmas.Bool.{and_parts}
-use Rattle.std.specs.List.{Contains, flat_map, list_all, list_any, range_with_len}
-use Rattle.std.specs.Option.{option_map_or}
+use Rattle.std.specs.List.{Contains, list_all, list_any}
 use Rattle.std.specs.Ordering.{is_eq}
 use Rattle.uni_base.specs.RankOrder.{doc_cmp}
-use Rattle.uni_base.specs.Walks.{Quota, Walker, has_share, lets_pass, spent, strong_keeps, strong_walk, walked, weak_keeps, weak_walk}
+use Rattle.uni_base.specs.Walks.{Walker, has_share, lets_pass, spent, strong_keeps, strong_walk, walked, weak_keeps, weak_walk}
 use Rattle.uni_base.specs.declared.entity.DocKey.{DocKey}
 use Rattle.uni_base.proofs.RankedLemmas.{is_eq_same, same_from_is_eq}
 use Rattle.query_tree.specs.declared.kind.ListKind.{ListKind}
@@ -14,11 +13,9 @@ use Rattle.query_tree.specs.declared.query.Mark.{Mark}
 use Rattle.query_tree.specs.declared.query.Mark.TheVariants.{Plain, Hits, Weight}
 use Rattle.uni_table.proofs.Listed.{first_is, later_is}
 use Rattle.uni_meaning.specs.Hits.{is_among, quota_of}
-use Rattle.uni_meaning.specs.Standings.{hit_by, is_found, row_at}
-use Rattle.uni_meaning.specs.Walking.{Paces, advanced, before_all, counted, counted_from, entered, fresh_counters, has_at, pace_keeps, spent_mark, walk_keeps, walk_standings, walkers_from}
-use Rattle.uni_meaning.specs.declared.column.Column.{Column}
+use Rattle.uni_meaning.specs.Standings.{hit_by}
+use Rattle.uni_meaning.specs.Walking.{counted, counted_from, has_at, spent_mark, walk_keeps, walkers_from}
 use Rattle.uni_meaning.specs.declared.pace.Counter.{Counter}
-use Rattle.uni_meaning.specs.declared.place.Place.{Place}
 use Rattle.uni_meaning.specs.declared.standing.Standing.{Standing}
 use Rattle.uni_meaning.specs.declared.standing.Standing.TheVariants.{Missed}
 use Rattle.uni_meaning.proofs.Arrivals.{any_from}

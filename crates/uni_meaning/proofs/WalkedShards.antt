@@ -1,5 +1,5 @@
 -- A walk over the entities of all shards, one shard after the other.
-use Rattle.std.proofs.Common.{◌≡◌, ◌++◌, ◌+◌, ◌<◌, ◌≤◌, ◌==◌, ℕ, zero, suc, Bool, true, false, if◌then◌else◌, List, [], ◌∷◌, Option, None, Some, refl, sym, ◌∙◌, ap, subst, append_assoc, arith, length, map, slice_get}
+use Rattle.std.proofs.Common.{◌≡◌, ◌++◌, ◌+◌, ◌<◌, ◌≤◌, ◌==◌, ℕ, zero, suc, Bool, true, false, if◌then◌else◌, List, [], ◌∷◌, Some, refl, sym, ◌∙◌, ap, subst, arith, length, map, slice_get}
 use Rattle.std.proofs.lemmas.Bool.Decides.{nat_tests}
 use Rattle.std.proofs.lemmas.List.{length-map}
 use Rattle.std.specs.List.{Contains, flat_map, range_with_len}
@@ -8,7 +8,7 @@ use Rattle.uni_base.specs.Walks.{Walker}
 use Rattle.uni_base.specs.declared.entity.DocKey.{DocKey}
 use Rattle.query_tree.specs.declared.kind.ListKind.{ListKind}
 use Rattle.uni_meaning.specs.Standings.{hit_by, row_at}
-use Rattle.uni_meaning.specs.Walking.{Paces, advanced, before_all, counted_from, entered, fresh_counters, pace_keeps, walk_keeps, walk_standings, walkers_from}
+use Rattle.uni_meaning.specs.Walking.{Paces, advanced, counted_from, entered, fresh_counters, pace_keeps, walk_keeps, walk_standings, walkers_from}
 use Rattle.uni_meaning.specs.declared.column.Column.{Column}
 use Rattle.uni_meaning.specs.declared.pace.Counter.{Counter}
 use Rattle.uni_meaning.specs.declared.place.Place.{Place}

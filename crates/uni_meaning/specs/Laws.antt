@@ -6,14 +6,15 @@ use Rattle.uni_base.specs.declared.edge.EdgeRef.{EdgeRef}
 use Rattle.uni_base.specs.declared.edge.Key.TheVariants.{Word}
 use Rattle.uni_base.specs.declared.entity.DocKey.{DocKey}
 use Rattle.uni_base.specs.declared.limits.Limits.{Limits}
-use Rattle.uni_schema.specs.Schema.{Declarations, shard_of}
+use Rattle.uni_schema.specs.Schema.{Declarations, IsSchema, shard_of}
+use Rattle.uni_schema.specs.declared.schema.VerticalDef.{VerticalDef}
 use Rattle.uni_table.specs.Contents.{Contents, has_edge}
 use Rattle.uni_table.specs.Ranked.{ranked}
 use Rattle.uni_table.specs.TableState.{IsKept}
 use Rattle.query_tree.specs.declared.kind.ListKind.TheVariants.{Or}
 use Rattle.query_tree.specs.declared.query.Mark.TheVariants.{Plain}
 use Rattle.query_check.specs.Verticals.{IsOf}
-use Rattle.query_check.specs.Plan.{Plan, Plans, term_plan, prefix_plan, list_plan, no_plans, with_plan}
+use Rattle.query_check.specs.Plan.{Plan, Plans, term_plan, prefix_plan, list_plan, join_plan, no_plans, with_plan}
 use Rattle.uni_meaning.specs.Firsts.{first_given, first_shown}
 use Rattle.uni_meaning.specs.Hits.{hits, is_hit, target_of}
 use Rattle.uni_meaning.specs.Lineages.{IsLineage, lineages}
@@ -43,6 +44,25 @@ pub record LineagesStand : Type 0 where
 pub record HitsHaveLineages : Type 0 where
   pub has : (schema : Declarations) (limits : Limits) (table : Contents) (plan : Plan) (vertical : ℕ) (x : DocKey) → IsKept schema limits table → IsOf schema plan vertical
       → is_hit schema table plan x ≡ true → (edges : List EdgeRef) × IsLineage schema table plan x edges
+
+-- no operand of a plan has a quota
+abbrev mutual
+  pub HasNoQuota : Plan → Type 0
+  HasNoQuota (term_plan number key) = Unit {0}
+  HasNoQuota (prefix_plan number from) = Unit {0}
+  HasNoQuota (list_plan kind plans) = HaveNoQuota plans
+  HasNoQuota (join_plan kind number limit plan) = HasNoQuota plan
+
+  pub HaveNoQuota : Plans → Type 0
+  HaveNoQuota no_plans = Unit {0}
+  HaveNoQuota (with_plan plan mark others) = (mark ≡ Plain) × HasNoQuota plan × HaveNoQuota others
+
+-- replies to typed plans without quotas do not depend on the number of shards: they are the same under other
+-- verticals, whatever the shards of each
+pub record ShardsMakeNoDifference : Type 0 where
+  pub same : (schema : Declarations) (verticals : List VerticalDef) (limits : Limits) (table : Contents) (plan : Plan) (vertical publishes viewer limit : ℕ) → IsSchema schema
+      → IsSchema (record schema { verticals = verticals }) → IsKept schema limits table → IsOf schema plan vertical → HasNoQuota plan
+      → reply_of (record schema { verticals = verticals }) table publishes plan viewer limit ≡ reply_of schema table publishes plan viewer limit
 
 -- a reply at a limit begins the reply at any greater one
 pub record RepliesBegin : Type 0 where

@@ -1,6 +1,6 @@
 //! Laws about the definitions, each the contract of a function that does nothing.
 ghost use Rattle.uni_base.specs.declared.entity.DocKey.{DocKey};
-ghost use Rattle.uni_meaning.specs.Laws.{FirstIsFirst, HitsHaveLineages, LightWalk, LineagesAreExact, LineagesStand, PrefixIsOr, RepliesBegin};
+ghost use Rattle.uni_meaning.specs.Laws.{FirstIsFirst, HitsHaveLineages, LightWalk, LineagesAreExact, LineagesStand, PrefixIsOr, RepliesBegin, ShardsMakeNoDifference};
 
 /// What is shown is the first lineage whose edges are all authorised; so something is shown exactly where
 /// there is one.
@@ -25,6 +25,12 @@ pub fn lineages_stand()
 #[tactic(auto, using(crate::proofs::Led::hits_have_lineages))]
 pub fn hits_have_lineages()
     ensures { HitsHaveLineages }
+{}
+
+/// Replies to typed queries without quotas are the same whatever the number of shards.
+#[tactic(auto, using(crate::proofs::Unsharded::shards_make_no_difference))]
+pub fn shards_make_no_difference()
+    ensures { ShardsMakeNoDifference }
 {}
 
 /// A reply at a limit begins the reply at any greater one.

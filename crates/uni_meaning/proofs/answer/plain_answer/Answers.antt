@@ -1,14 +1,12 @@
-use Rattle.std.proofs.Common.{◌≡◌, ◌++◌, ℕ, List, [], ◌∷◌, Option, refl, sym, ap, ◌∙◌, subst}
+use Rattle.std.proofs.Common.{◌≡◌, List, [], ◌∷◌, refl, ap, ◌∙◌}
 use Rattle.std.specs.List.{cons_option, filter_map}
 use Rattle.uni_base.specs.declared.entity.DocKey.{DocKey}
 use Rattle.query_check.specs.Plan.{Plan, stated_of}
 use Rattle.uni_meaning.specs.Hits.{cut}
-use Rattle.uni_meaning.specs.Replies.{reply_of, shown_hit}
+use Rattle.uni_meaning.specs.Replies.{shown_hit}
 use Rattle.uni_meaning.specs.Standings.{members_of, shown_member}
 use Rattle.uni_meaning.specs.Viewed.{Viewed}
-use Rattle.uni_meaning.specs.declared.cut.Member.{Member}
 use Rattle.uni_meaning.specs.declared.reply.Hit.{Hit}
-use Rattle.uni_meaning.specs.declared.reply.Reply.{Reply}
 use Rattle.uni_meaning.proofs.answer.plain_answer.Goals as goal
 
 -- the members of a cut that are shown

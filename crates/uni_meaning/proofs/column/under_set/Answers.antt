@@ -1,7 +1,7 @@
 use Rattle.std.proofs.Common.{◌≡◌, ◌++◌, ◌∷◌, [], List, map, sym, ap, ◌∙◌, arith, if◌then◌else◌}
 use Rattle.std.proofs.lemmas.List.FromFn.{map-range_with_len_more}
 use Rattle.std.specs.List.{range_with_len}
-use Rattle.uni_meaning.specs.Standings.{hit_by, row_at, set_keeps, under_set}
+use Rattle.uni_meaning.specs.Standings.{hit_by, row_at, under_set}
 use Rattle.uni_meaning.specs.declared.standing.Standing.{Standing}
 use Rattle.uni_meaning.specs.declared.standing.Standing.TheVariants.{Missed}
 use Rattle.uni_meaning.proofs.column.under_set.Goals as goal

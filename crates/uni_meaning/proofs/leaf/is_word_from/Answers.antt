@@ -1,6 +1,5 @@
-use Rattle.std.proofs.Common.{◌≡◌, eqb, List, ℕ, ap, sym, ◌∙◌}
+use Rattle.std.proofs.Common.{eqb, List, ℕ, ap, sym, ◌∙◌}
 use Rattle.std.specs.List.{starts_with}
-use Rattle.uni_base.specs.declared.edge.Key.{Key}
 use Rattle.uni_meaning.specs.Standings.{is_word_from}
 use Rattle.uni_meaning.proofs.AtPlaces.{begins_is}
 use Rattle.uni_meaning.proofs.leaf.is_word_from.Goals as goal

@@ -1,4 +1,4 @@
-use Rattle.std.proofs.Common.{◌≡◌, ◌++◌, ◌∷◌, [], ◌+◌, ◌≤◌, Bool, true, false, if◌then◌else◌, List, All, length, suc, sym, ap, subst, ◌∙◌, arith, drop, drop-cons, append_assoc}
+use Rattle.std.proofs.Common.{◌≡◌, ◌++◌, ◌∷◌, [], ◌+◌, ◌≤◌, if◌then◌else◌, List, All, length, suc, sym, ap, subst, ◌∙◌, arith, drop, drop-cons, append_assoc}
 use Rattle.uni_meaning.specs.Standings.{hit_by, row_at}
 use Rattle.uni_meaning.specs.Walking.{IsPace, Paces, advanced, entered, fresh_counters, pace_keeps, pace_of, walk_standings}
 use Rattle.uni_meaning.specs.declared.place.Place.{Place}

@@ -1,4 +1,4 @@
-use Rattle.std.proofs.Common.{◌≡◌, ◌++◌, ◌∷◌, [], ◌+◌, List, ℕ, true, false, if◌then◌else◌, ap, sym, ◌∙◌, append_assoc, drop, Vec, Global}
+use Rattle.std.proofs.Common.{◌++◌, ◌∷◌, [], ◌+◌, List, ℕ, if◌then◌else◌, ap, sym, ◌∙◌, append_assoc, drop, Vec, Global}
 use Rattle.uni_meaning.specs.Policy.{denials_from}
 use Rattle.uni_meaning.proofs.AtPlaces.{denials_step}
 use Rattle.uni_meaning.proofs.view.denials.Goals as goal

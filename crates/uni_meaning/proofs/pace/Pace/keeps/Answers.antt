@@ -1,7 +1,6 @@
-use Rattle.std.proofs.Common.{◌≡◌, ◌&&◌, ℕ, List, length, false, true, sym, ap, ◌∙◌, arith, drop}
+use Rattle.std.proofs.Common.{◌≡◌, ◌&&◌, List, true, sym, ap, ◌∙◌, arith, drop}
 use Rattle.std.proofs.lemmas.List.{length-map, drop_all}
-use Rattle.std.specs.List.{list_any}
-use Rattle.uni_meaning.specs.Standings.{is_found, row_at}
+use Rattle.uni_meaning.specs.Standings.{row_at}
 use Rattle.uni_meaning.specs.Walking.{all_allow, walkers_from}
 use Rattle.uni_meaning.specs.declared.pace.Counter.{Counter}
 use Rattle.uni_meaning.proofs.Walked.{keeps_is}

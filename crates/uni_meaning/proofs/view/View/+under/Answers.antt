@@ -1,16 +1,14 @@
-use Rattle.std.proofs.Common.{◌≡◌, ◌++◌, ◌∷◌, [], ◌+◌, ◌<◌, ℕ, List, Ok, length, map, suc, sym, ap, subst, ◌∙◌, arith, refl, get_or, rules, take, take-suc, All}
-use Rattle.std.proofs.lemmas.Grind.{common_steps}
+use Rattle.std.proofs.Common.{◌≡◌, ◌++◌, ◌∷◌, [], ◌+◌, ◌<◌, List, length, map, suc, sym, ap, subst, ◌∙◌, arith, get_or, rules, take, take-suc, All}
 use Rattle.std.proofs.lemmas.List.{map-append}
 use Rattle.std.proofs.lemmas.List.Sorted.{answers_always}
 use Rattle.std.specs.Result.{IfOk}
-use Rattle.query_tree.specs.declared.kind.ListKind.{ListKind}
 use Rattle.query_tree.specs.declared.kind.ListKind.TheVariants as lists
 use Rattle.query_tree.specs.declared.kind.JoinKind.TheVariants as joins
 use Rattle.query_tree.specs.declared.query.Mark.{Mark}
 use Rattle.query_check.specs.declared.checked.Checked.{Checked}
 use Rattle.query_check.specs.declared.checked.CheckedNode.{CheckedNode}
 use Rattle.query_check.specs.declared.checked.CheckedOperand.{CheckedOperand}
-use Rattle.query_check.specs.Plan.{Plan, Seen, SeenOperand, SeenQuery, Stated, all_inner, inner_of, operands_seen, plans_of, seen, seen_join, seen_list, seen_node, seen_operand, stated_of, join_plan, list_plan, term_plan, prefix_plan}
+use Rattle.query_check.specs.Plan.{Plan, Seen, SeenOperand, SeenQuery, operands_seen, plans_of, seen, seen_join, seen_list, seen_node, seen_operand, stated_of, join_plan, term_plan, prefix_plan}
 use Rattle.query_check.specs.Verticals.{AreOf, AreStated, IsOf}
 use Rattle.query_check.proofs.SeenLemmas.{seen_is}
 use Rattle.uni_meaning.specs.Hits.{cut, first_vertical, target_of, vertical_of}

@@ -1,4 +1,4 @@
-use Rattle.std.proofs.Common.{◌≡◌, ◌++◌, ◌∷◌, [], ◌+◌, ◌<◌, ◌==◌, ℕ, List, length, map, suc, sym, ap, subst, ◌∙◌, arith, refl, take, take-suc, if◌then◌else◌}
+use Rattle.std.proofs.Common.{◌≡◌, ◌++◌, ◌∷◌, [], ◌+◌, ◌<◌, ◌==◌, List, length, map, suc, sym, ap, subst, ◌∙◌, arith, refl, take, take-suc, if◌then◌else◌}
 use Rattle.std.proofs.lemmas.List.{map-append}
 use Rattle.std.specs.List.{Contains}
 use Rattle.uni_base.specs.declared.edge.EdgeRef.{EdgeRef}
@@ -6,7 +6,6 @@ use Rattle.uni_base.specs.declared.edge.Held.{Held}
 use Rattle.uni_base.specs.declared.edge.Key.TheVariants.{Id}
 use Rattle.uni_table.specs.Ranked.{reached_of}
 use Rattle.uni_table.specs.TableState.{IsKept}
-use Rattle.uni_meaning.specs.Hits.{edge_to}
 use Rattle.uni_meaning.specs.Standings.{arrival, either, first_of, gathered_at}
 use Rattle.uni_meaning.specs.Viewed.{Viewed}
 use Rattle.uni_meaning.specs.declared.standing.Standing.{Standing}

@@ -1,10 +1,6 @@
-use Rattle.std.proofs.Common.{◌≡◌, ◌++◌, ◌∷◌, [], ◌+◌, ◌<◌, ◌≤◌, ℕ, List, Option, Some, None, length, map, suc, sym, ap, subst, ◌∙◌, arith, refl, take, take-suc, take_all, option_copied}
+use Rattle.std.proofs.Common.{◌≡◌, ◌++◌, ◌∷◌, [], ◌+◌, List, map, suc, sym, ap, subst, ◌∙◌, arith, refl, take, take-suc, take_all, option_copied}
 use Rattle.std.proofs.lemmas.List.{map-append}
-use Rattle.std.specs.BTreeMap.{is_at}
-use Rattle.std.specs.Map.{lookup}
 use Rattle.std.specs.Option.{unwrap_or}
-use Rattle.std.specs.Ordering.{nat_cmp}
-use Rattle.uni_base.specs.declared.edge.Held.{Held}
 use Rattle.uni_base.specs.declared.edge.Key.TheVariants.{Id}
 use Rattle.uni_table.specs.Ranked.{reached_of}
 use Rattle.uni_table.specs.TableState.{IsKept}
