@@ -19,7 +19,7 @@ use Rattle.script_rounds.specs.Rounds.{opened, rounds_from, closed_from, script_
 use Rattle.script_rounds.specs.RoundsState.{RoundsState, Opened, HeaderRefused, HeaderStopped, IsUnfinished, OpenRefused}
 use Rattle.script_rounds.specs.Terms.{Terms, under}
 use Rattle.script_rounds.proofs.HeaderSteps.{goes-longest, step-cut}
-use Rattle.script_rounds.proofs.ReadSteps.{gave-append}
+use Rattle.script_rounds.proofs.ReadSteps.{gave-append, lines_went}
 use Rattle.script_rounds.proofs.RoundSteps.{rounds_from-cut, closed_from-cut}
 use Rattle.script_rounds.proofs.Whole.{whole_come, whole_lines-unbroken}
 
@@ -127,9 +127,13 @@ module _ (limits : Limits) where
         ∙ ap (opened schema) (closed_from-cut (under limits schema) rounds.reader.kept long enough (length t.lines + 1) 0 (whole_lines (rounds.reader.ahead ++ rest)))
         ∙ ap (λ n. opened schema (closed_from (under limits schema) n 0 (whole_lines (rounds.reader.ahead ++ rest)))) number
         ∙ ap (λ (u : Terms). opened schema (closed_from u (rounds.reader.lines + 1) 0 (whole_lines (rounds.reader.ahead ++ rest)))) (sym terms);
+    lines = λ rest stops. all_lines (lines_went (at (start limits) left_before) (at rounds.reader left_after) t.lines t.went rest stops);
     end = t.went.end (λ ended. cc);
   }
     where
+      all_lines : {n m : ℕ} → 0 + n ≡ m → n ≡ m
+      all_lines is = omega (arith, is)
+
       long : limits.line < rounds.reader.kept
       long = omega (arith, t.went.kept)
 

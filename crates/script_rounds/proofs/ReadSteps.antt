@@ -1,6 +1,6 @@
 -- From what a read says to what reading takes.
 use Rattle.std.proofs.Common.{◌≡◌, ◌+◌, ◌<◌, true, false, ℕ, List, [], ◌∷◌, ◌++◌, length, take, drop, Option, None, Some, sym, ◌∙◌, ap, subst, refl, arith, add-one, length-append}
-use Rattle.std.proofs.lemmas.List.{append_assoc, length-take}
+use Rattle.std.proofs.lemmas.List.{append_assoc, length-take, length-map}
 use Rattle.script_rounds.specs.Lines.{has_lf, lines_of, cut}
 use Rattle.script_rounds.specs.Reading.{Gave, NoneLeft, LineState, Place, at, Went, IsFront, IsOut, IsPast, to_come}
 use Rattle.script_rounds.proofs.Fronts.{cut-shortened, lines_of-front, length-front}
@@ -16,6 +16,19 @@ gave-append None second third xs ys g h = subst (λ l. Gave l ys third) g h
 gave-append (Some left) second third xs ys g h =
     let later : Gave (Some g.0) ys third = subst (λ l. Gave l ys third) g.2 h in
     (later.0, g.1 ∙ ap (λ rest. xs ++ rest) later.1 ∙ sym (append_assoc xs ys later.0), later.2)
+
+-- how many lines there are in all stays the same
+pub lines_went : (before after : Place) (passed : List (List ℕ)) (w : Went before after passed) (rest : List ℕ) → (after.reader.ended ≡ true → rest ≡ [])
+    → before.reader.lines + length (lines_of (before.reader.ahead ++ (w.more ++ rest))) ≡ after.reader.lines + length (lines_of (after.reader.ahead ++ rest))
+lines_went before after passed w rest stops =
+    omega (
+      arith,
+      w.lines,
+      sym (length-map (lines_of (before.reader.ahead ++ (w.more ++ rest))) (take before.reader.kept))
+      ∙ ap length (w.same rest stops)
+      ∙ length-append passed (to_come after.reader rest),
+      length-map (lines_of (after.reader.ahead ++ rest)) (take after.reader.kept),
+    )
 
 -- a reader stays where it is
 pub went_nothing : (place : Place) → Went place place []

@@ -1,5 +1,5 @@
 -- From the lines that were taken to the rounds that were read.
-use Rattle.std.proofs.Common.{◌≡◌, ℕ, ◌+◌, ◌<◌, ◌≤◌, true, false, List, [], ◌∷◌, ◌++◌, length, map, Option, None, sym, ◌∙◌, ap, subst, refl, arith, append-nil, length-append}
+use Rattle.std.proofs.Common.{◌≡◌, ℕ, Bool, ◌+◌, ◌<◌, ◌≤◌, true, false, List, [], ◌∷◌, ◌++◌, length, map, Option, None, inl, inr, sym, ◌∙◌, ap, subst, refl, arith, append-nil, length-append}
 use Rattle.std.specs.List.{list_any}
 use Rattle.script_rounds.specs.declared.item.Item.{Item}
 use Rattle.script_rounds.specs.declared.lines.ScriptRefusal.{ScriptRefusal}
@@ -13,13 +13,26 @@ use Rattle.script_rounds.specs.RoundReads.{BrokeOff, Ends, Keeps, Rise, TookNext
 use Rattle.script_rounds.specs.RoundsState.{RoundsState, Took, ReadRound, ReadEnd, ReadStopped, closed_ahead}
 use Rattle.script_rounds.specs.Terms.{Terms}
 use Rattle.script_rounds.proofs.Numbering.{entries_rise, entries-few, item_lines}
-use Rattle.script_rounds.proofs.ReadSteps.{gave-append}
+use Rattle.script_rounds.proofs.ReadSteps.{gave-append, lines_went}
 use Rattle.script_rounds.proofs.RoundLoop.{items-length}
 use Rattle.script_rounds.proofs.Whole.{whole_come, whole_lines-unbroken, rounds_go, rounds_last, rounds_none, closed_go, closed_none}
 
 abbrev took : (before after : RoundsState) (left_before left_after : Option (List ℕ)) (passed : List (List ℕ)) → after.terms ≡ before.terms
     → Went (at before.reader left_before) (at after.reader left_after) passed → Took before after left_before left_after
-took before after left_before left_after passed terms w = record { more = w.more; gave = w.gave; taken = w.taken; terms = terms; limit = w.limit }
+took before after left_before left_after passed terms w = record {
+  more = w.more;
+  gave = w.gave;
+  taken = w.taken;
+  terms = terms;
+  limit = w.limit;
+  spent = w.spent;
+  stays = w.stays;
+}
+
+-- a reader that is out of lines has not ended before
+unended_before : (before edge : Place) (passed : List (List ℕ)) → Went before edge passed → IsOut edge.reader → (ended : Bool) → before.reader.ended ≡ ended → ended ≡ false
+unended_before before edge passed w out false is = refl
+unended_before before edge passed w out true is = absurd (let ended : edge.reader.ended ≡ true = w.stays is in let unended : edge.reader.ended ≡ false = out.unended in cc)
 
 -- the lines to come, where as much of each is kept as before
 come : (before after : Place) (passed : List (List ℕ)) (w : Went before after passed) (rest : List ℕ) → (after.reader.ended ≡ true → rest ≡ [])
@@ -46,6 +59,7 @@ read_go before after left_before left_after items lines line terms keeps w goes 
       closed_go before.terms kept keeps.line keeps.go number later (before.reader.ahead ++ (w.more ++ rest)) (after.reader.ahead ++ rest) lines line
       (come_whole (at before.reader left_before) (at after.reader left_after) (lines ++ line ∷ []) w unended rest) clear goes count
       ∙ ap (λ (t : Terms). entries ∷ closed_from t later 0 (whole_lines (after.reader.ahead ++ rest))) (sym terms);
+  lines = λ rest stops. lines_went (at before.reader left_before) (at after.reader left_after) (lines ++ line ∷ []) w rest stops;
   gives = gives;
 }
   where
@@ -80,6 +94,7 @@ read_last before after left_before left_after items lines terms keeps w spent so
       clear some
       ∙ ap (λ bytes. entries ∷ rounds_from after.terms (after.reader.lines + 1) 0 (lines_of bytes)) (sym (nothing rest stops));
   closed = λ unended rest. absurd (both unended);
+  lines = λ rest stops. lines_went (at before.reader left_before) (at after.reader left_after) lines w rest stops;
   gives = gives;
 }
   where
@@ -106,6 +121,9 @@ read_round before after left_before left_after items terms keeps t = by t.ending
         read_go before after left_before left_after items t.lines line terms keeps
         (subst (λ ls. Went (at before.reader left_before) (at after.reader left_after) (t.lines ++ line ∷ ls)) ends.1 w) ends.0 t.clear t.gives
 
+add-none : (n : ℕ) → n + 0 ≡ n
+add-none n = omega arith
+
 -- no round was left
 pub read_end : (before after : RoundsState) (left_before left_after : Option (List ℕ)) → after.terms ≡ before.terms → Keeps before.terms.limits before.reader
     → TookNext before.terms (at before.reader left_before) (at after.reader left_after) None → ReadEnd before after left_before left_after
@@ -116,6 +134,11 @@ read_end before after left_before left_after terms keeps t = record {
       ∙ come (at before.reader left_before) (at after.reader left_after) [] t.0 [] (λ ended. refl)
       ∙ ap (λ bytes. cut before.reader.kept (lines_of bytes)) (append-nil after.reader.ahead ∙ t.1.1));
   spent = t.1;
+  lines =
+      ap (λ bytes. before.reader.lines + length (lines_of (before.reader.ahead ++ bytes))) (sym (append-nil t.0.more))
+      ∙ lines_went (at before.reader left_before) (at after.reader left_after) [] t.0 [] (λ ended. refl)
+      ∙ ap (λ bytes. after.reader.lines + length (lines_of bytes)) (append-nil after.reader.ahead ∙ t.1.1)
+      ∙ add-none after.reader.lines;
 }
 
 -- where a reader is out of lines, none of those to come is closed
@@ -135,6 +158,9 @@ pub read_stopped : (before after : RoundsState) (left_before left_after : Option
     → BrokeOff (at before.reader left_before) (at after.reader left_after) refusal → ReadStopped before after left_before left_after refusal
 read_stopped before after left_before left_after refusal terms keeps b = by refusal b.stopped.edge b.stopped.went b.stopped.stops
   where
+    open_before : (edge : Place) → Went (at before.reader left_before) edge b.lines → IsOut edge.reader → before.reader.ended ≡ false
+    open_before edge w out = unended_before (at before.reader left_before) edge b.lines w out before.reader.ended refl
+
     by : (refusal : ScriptRefusal) (edge : Place) (w : Went (at before.reader left_before) edge b.lines) → StopsBy refusal edge (at after.reader left_after)
         → ReadStopped before after left_before left_after refusal
     by ReadFault edge w stops =
@@ -144,6 +170,7 @@ read_stopped before after left_before left_after refusal terms keeps b = by refu
           took = took before after left_before left_after b.lines terms same;
           none = none_closed before left_before (at after.reader left_after) b.lines keeps same out b.clear;
           limit = out.in_limit;
+          unended = inr (unended_before (at before.reader left_before) (at after.reader left_after) b.lines same out before.reader.ended refl);
         }
     by (TooLong count) edge w stops = record {
       took = record {
@@ -152,14 +179,17 @@ read_stopped before after left_before left_after refusal terms keeps b = by refu
         taken = omega (arith, stops.taken, stops.past, stops.full, w.taken, length-append w.more (stops.last ∷ []));
         terms = terms;
         limit = stops.limit ∙ w.limit;
+        spent = λ ended. absurd (let unended : before.reader.ended ≡ false = open_before edge w stops.out in cc);
+        stays = λ ended. absurd (let unended : before.reader.ended ≡ false = open_before edge w stops.out in cc);
       };
+      unended = inr (open_before edge w stops.out);
       none = (w.more, (stops.last, (refl, none_closed before left_before edge b.lines keeps w stops.out b.clear)));
       limit = (sym stops.taken, stops.taken ∙ stops.past ∙ ap (λ n. n + 1) (sym stops.limit));
     }
     by Memory edge w stops =
         let same = subst (λ place. Went (at before.reader left_before) place b.lines) (sym stops.0) w in
         let within = subst (λ (place : Place). place.reader.taken ≤ place.reader.limit) (sym stops.0) stops.1 in
-        record { took = took before after left_before left_after b.lines terms same; none = tt; limit = within }
+        record { took = took before after left_before left_after b.lines terms same; none = tt; limit = within; unended = inl refl }
 
 -- what was passed of a round: its lines, and the one that ends it
 passed-some : (lines ending : List (List ℕ)) (after : LineState) → Ends lines ending after → 0 < length (lines ++ ending)

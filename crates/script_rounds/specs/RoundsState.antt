@@ -41,6 +41,10 @@ rounds_ahead state rest = rounds_from state.terms (state.reader.lines + 1) 0 (li
 abbrev pub closed_ahead : RoundsState → List ℕ → List (List Entry)
 closed_ahead state rest = closed_from state.terms (state.reader.lines + 1) 0 (whole_lines (state.reader.ahead ++ rest))
 
+-- how many lines there are in all, where these bytes follow those that are held
+abbrev pub lines_in_all : RoundsState → List ℕ → ℕ
+lines_in_all state rest = state.reader.lines + length (lines_of (state.reader.ahead ++ rest))
+
 -- bytes were taken from the source
 pub record Took (before after : RoundsState) (left_before left_after : Option (List ℕ)) : Type 0 where
   pub more : List ℕ
@@ -48,6 +52,9 @@ pub record Took (before after : RoundsState) (left_before left_after : Option (L
   pub taken : after.reader.taken ≡ before.reader.taken + length more
   pub terms : after.terms ≡ before.terms
   pub limit : after.reader.limit ≡ before.reader.limit
+  -- after the end of the input none are
+  pub spent : before.reader.ended ≡ true → more ≡ []
+  pub stays : before.reader.ended ≡ true → after.reader.ended ≡ true
 
 -- A round was read: whatever follows the bytes that were taken, it is the first of the rounds that were to
 -- come, and the others are to come then; and so of those that end with their `go`.
@@ -56,6 +63,7 @@ pub record ReadRound (before after : RoundsState) (left_before left_after : Opti
   pub entries : List Entry
   pub first : (rest : List ℕ) → (after.reader.ended ≡ true → rest ≡ []) → rounds_ahead before (took.more ++ rest) ≡ entries ∷ rounds_ahead after rest
   pub closed : after.reader.ended ≡ false → (rest : List ℕ) → closed_ahead before (took.more ++ rest) ≡ entries ∷ closed_ahead after rest
+  pub lines : (rest : List ℕ) → (after.reader.ended ≡ true → rest ≡ []) → lines_in_all before (took.more ++ rest) ≡ lines_in_all after rest
   pub gives : AreItemsOf entries items
 
 -- no round is left: the input has ended, and all of it was given on
@@ -63,6 +71,7 @@ pub record ReadEnd (before after : RoundsState) (left_before left_after : Option
   pub took : Took before after left_before left_after
   pub none : rounds_ahead before took.more ≡ []
   pub spent : IsSpent after.reader
+  pub lines : lines_in_all before took.more ≡ after.reader.lines
 
 abbrev pub ReadNext : RoundsState → RoundsState → Option (List ℕ) → Option (List ℕ) → Option Round → Type 0
 ReadNext before after left_before left_after None = ReadEnd before after left_before left_after
@@ -85,6 +94,8 @@ pub record ReadStopped (before after : RoundsState) (left_before left_after : Op
   pub took : Took before after left_before left_after
   pub none : NoneClosed before took.more refusal
   pub limit : LimitFits refusal after.reader.taken after.reader.limit
+  -- where a read failed, or the limit was passed, the input had not ended
+  pub unended : (refusal ≡ Memory) ⊎ (before.reader.ended ≡ false)
 
 -- A script was opened: whatever follows the bytes that were taken, its header is whole in them, and its
 -- rounds are those to come.
@@ -96,6 +107,7 @@ pub record Opened (limits : Limits) (rounds : RoundsState) (schema : Declaration
   pub ready : rounds.refusal ≡ None
   pub script : (rest : List ℕ) → (rounds.reader.ended ≡ true → rest ≡ []) → script_of limits (more ++ rest) ≡ opened schema (rounds_ahead rounds rest)
   pub closed : rounds.reader.ended ≡ false → (rest : List ℕ) → closed_script_of limits (more ++ rest) ≡ opened schema (closed_ahead rounds rest)
+  pub lines : (rest : List ℕ) → (rounds.reader.ended ≡ true → rest ≡ []) → length (lines_of (more ++ rest)) ≡ lines_in_all rounds rest
   pub end : rounds.reader.ended ≡ true → NoneLeft left_after
 
 -- A header was refused, in the lines that are whole in the bytes that were taken, or in all lines of the

@@ -50,6 +50,7 @@ impl Rounds {
             (S.left source.old) (S.left source.new)) }
         ensures refused { IfErr result (λ refusal. OpenRefused limits refusal
             (S.left source.old) (S.left source.new)) }
+        ensures within { IfOk result (λ found. (found.0.reader.limit ≡ limits.script) × (found.0.reader.taken ≤ limits.script)) }
         ensures faults { OpenFits result (S.faults source.old) (S.faults source.new) }
     {
         let Ok(mut reader) = LineReader::new(alloc, &limits) else {
@@ -98,6 +99,10 @@ impl Rounds {
         ensures count { IfOk result (λ next. IfSome next
             (λ round. self.old.reader.lines + length round.items ≤ self.new.reader.lines)) }
         ensures few { self.new.reader.lines ≤ self.new.terms.limits.script }
+
+        // No more bytes are taken than the limit, but for the one that shows that there are more.
+        ensures limit { self.new.reader.limit ≡ self.new.terms.limits.script }
+        ensures within { OnOk result (self.new.reader.taken ≤ self.new.terms.limits.script) }
 
         // A refusal has its cause, and stays.
         ensures stopped { self.old.refusal ≡ None
