@@ -1,0 +1,7 @@
+mod Decimals
+mod Leading
+mod Names
+mod Spaced
+mod Texts
+mod Told
+mod Unbroken

@@ -1,0 +1,53 @@
+-- The first line of an answer, and what it says.
+use Rattle.std.specs.Prelude.{ℕ, List, [], ◌∷◌, codes, length}
+use Rattle.std.specs.Fmt.{decimal}
+use Rattle.uni_base.specs.Fields.{spaced}
+use Rattle.uni_schema.specs.Schema.{Declarations}
+use Rattle.uni_schema.specs.Print.{vertical_name}
+use Rattle.reply_text.specs.declared.answer.Answer.{Answer}
+use Rattle.reply_text.specs.declared.answer.Answer.TheVariants.{Published, Reply, Compacted, Stats, Refused, Fault, QueryFault, Memory, Tidied, Untidied}
+use Rattle.reply_text.specs.FirstWords.{first_words}
+
+-- what the first line of an answer says: of a publish, a reply, a compaction or the stacks, the line's
+-- number with the number of publishes or of layers, and how many lines follow; of a refusal or a fault its
+-- code and column; of want of memory the line alone; of a stack where it stands
+pub data Head : Type 0 where
+  published : (line number : ℕ) → Head
+  replied : (line number count : ℕ) → Head
+  compacted : (line number : ℕ) → Head
+  counted : (line number count : ℕ) → Head
+  refused : (line code : ℕ) → Head
+  fault : (line code : ℕ) → Head
+  query_fault : (line code column : ℕ) → Head
+  lacking : (line : ℕ) → Head
+  tidied : (vertical shard replica number : ℕ) → Head
+  untidied : (vertical shard replica : ℕ) → Head
+
+abbrev pub head_of : Answer → Head
+head_of (Published line number) = published line number
+head_of (Reply line reply) = replied line reply.publishes (length reply.hits)
+head_of (Compacted line number) = compacted line number
+head_of (Stats line publishes stacks) = counted line publishes (length stacks)
+head_of (Refused line code) = refused line code
+head_of (Fault line code) = fault line code
+head_of (QueryFault line code column) = query_fault line code column
+head_of (Memory line) = lacking line
+head_of (Tidied vertical shard replica number) = tidied vertical shard replica number
+head_of (Untidied vertical shard replica) = untidied vertical shard replica
+
+-- the fields of that line: numbers in decimal, and a vertical by its name
+abbrev pub head_fields : Declarations → Head → List (List ℕ)
+head_fields schema (published line number) = first_words.published ∷ decimal line ∷ decimal number ∷ []
+head_fields schema (replied line number count) = first_words.reply ∷ decimal line ∷ codes "at" ∷ decimal number ∷ codes "hits" ∷ decimal count ∷ []
+head_fields schema (compacted line number) = first_words.compacted ∷ decimal line ∷ decimal number ∷ []
+head_fields schema (counted line number count) = first_words.stats ∷ decimal line ∷ codes "at" ∷ decimal number ∷ codes "stacks" ∷ decimal count ∷ []
+head_fields schema (refused line code) = first_words.refused ∷ decimal line ∷ decimal code ∷ []
+head_fields schema (fault line code) = first_words.error ∷ decimal line ∷ decimal code ∷ []
+head_fields schema (query_fault line code column) = first_words.error ∷ decimal line ∷ decimal code ∷ decimal column ∷ []
+head_fields schema (lacking line) = first_words.memory ∷ decimal line ∷ []
+head_fields schema (tidied vertical shard replica number) = first_words.tidied ∷ vertical_name schema vertical ∷ decimal shard ∷ decimal replica ∷ decimal number ∷ []
+head_fields schema (untidied vertical shard replica) = first_words.untidied ∷ vertical_name schema vertical ∷ decimal shard ∷ decimal replica ∷ []
+
+-- the line, with one space between any two fields
+abbrev pub head_line : Declarations → Head → List ℕ
+head_line schema head = spaced (head_fields schema head)

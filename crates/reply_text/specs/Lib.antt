@@ -1,0 +1,5 @@
+pub mod FirstWords
+pub mod Heads
+pub mod Laws
+pub mod Lines
+pub mod Printed

@@ -1,0 +1,14 @@
+mod Complete
+mod Items
+mod JournalSteps
+mod Lists
+mod PlainLegal
+mod RanSteps
+mod Reading
+mod Results
+mod RoundSteps
+mod Served
+mod ServingSteps
+mod Steps
+mod Texts
+mod WriteSteps

@@ -1,0 +1,8 @@
+/// Why a publish is refused.
+#[derive(Clone, Copy, Debug, PartialEq, Eq)]
+pub(crate) enum PublishRefusal {
+    /// As many were made as the limit allows.
+    TooMany,
+    /// Memory was wanting.
+    Memory,
+}
