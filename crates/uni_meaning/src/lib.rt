@@ -13,6 +13,8 @@ mod pace;
 mod place;
 mod reply;
 mod standing;
+#[cfg(test)]
+mod tests;
 mod view;
 
 pub use answer::plain_answer;
