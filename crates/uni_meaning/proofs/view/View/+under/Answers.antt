@@ -2,17 +2,19 @@ use Rattle.std.proofs.Common.{◌≡◌, ◌++◌, ◌∷◌, [], ◌+◌, ◌<�
 use Rattle.std.proofs.lemmas.List.{map-append}
 use Rattle.std.proofs.lemmas.List.Sorted.{answers_always}
 use Rattle.std.specs.Result.{IfOk}
+use Rattle.query_tree.specs.declared.kind.ListKind.{ListKind}
 use Rattle.query_tree.specs.declared.kind.ListKind.TheVariants as lists
 use Rattle.query_tree.specs.declared.kind.JoinKind.TheVariants as joins
 use Rattle.query_tree.specs.declared.query.Mark.{Mark}
 use Rattle.query_check.specs.declared.checked.Checked.{Checked}
 use Rattle.query_check.specs.declared.checked.CheckedNode.{CheckedNode}
 use Rattle.query_check.specs.declared.checked.CheckedOperand.{CheckedOperand}
-use Rattle.query_check.specs.Plan.{Plan, Seen, SeenOperand, SeenQuery, operands_seen, plans_of, seen, seen_join, seen_list, seen_node, seen_operand, stated_of, join_plan, term_plan, prefix_plan}
+use Rattle.query_check.specs.Plan.{Plan, Seen, all_inner, SeenOperand, SeenQuery, operands_seen, plans_of, seen, seen_join, seen_list, seen_node, seen_operand, stated_of, join_plan, list_plan, term_plan, prefix_plan}
 use Rattle.query_check.specs.Verticals.{AreOf, AreStated, IsOf}
 use Rattle.query_check.proofs.SeenLemmas.{seen_is}
 use Rattle.uni_meaning.specs.Hits.{cut, first_vertical, target_of, vertical_of}
 use Rattle.uni_meaning.specs.Standings.{columns_of, found_members, members_of, places_of, seen_column, standings_of}
+use Rattle.uni_meaning.specs.Viewed.{Viewed}
 use Rattle.uni_meaning.specs.declared.column.Column.{Column}
 use Rattle.uni_meaning.specs.declared.place.Place.{Place}
 use Rattle.uni_meaning.specs.declared.standing.Standing.{Standing}
@@ -116,75 +118,49 @@ under-returns-in-Prefix t c =
     subst (λ (p : Plan). IfOk c.under_prefixes.result (λ standings. standings.items ≡ standings_of v p c.args.places.now)) (sym is)
     (subst (λ (ss : List Standing). IfOk c.under_prefixes.result (λ standings. standings.items ≡ ss)) (stand_prefixes v v.limits c.requires.view.kept c.in-Prefix.type_no c.in-Prefix.from c.args.places.now there) c.under_prefixes.ensures)
 
+-- what a node keeps, the list that it is seen as keeps
+list_keeps : (v : Viewed) (node : Seen) (kind : ListKind) (operands : List SeenOperand) (places : List Place)
+    → node ≡ seen_list kind operands
+    → IsOf v.schema node.plan (vertical_of v.schema node.plan)
+    → AreStated v.schema node.inner
+    → places ≡ places_of v.schema v.contents (vertical_of v.schema node.plan)
+    → IsOf v.schema (list_plan kind (plans_of operands)) (first_vertical v.schema (plans_of operands))
+    × (AreStated v.schema (all_inner operands)
+    × (places ≡ places_of v.schema v.contents (first_vertical v.schema (plans_of operands))))
+list_keeps v node kind operands places is typed inner there = (
+  subst (λ (s : Seen). IsOf v.schema s.plan (vertical_of v.schema s.plan)) is typed,
+  (subst (λ (s : Seen). AreStated v.schema s.inner) is inner, subst (λ (s : Seen). places ≡ places_of v.schema v.contents (vertical_of v.schema s.plan)) is there),
+)
+
 pub under-under_list-requires : goal.under-under_list-requires
 under-under_list-requires t c =
-    let v = c.args.self.now in
-    let is : seen_node c.args.node.now ≡ seen_list lists.And (operands_seen c.in-And.operands.items) = ap seen_node c.in-And.is ∙ seen_and c.in-And.operands in (
-      omega (arith, c.decreases, ap (λ (s : Seen). plan_size s.plan) is),
-      (
-        c.requires.view,
-        (
-          subst (λ (s : Seen). IsOf v.schema s.plan (vertical_of v.schema s.plan)) is c.requires.typed,
-          (subst (λ (s : Seen). AreStated v.schema s.inner) is c.requires.inner, subst (λ (s : Seen). c.args.places.now ≡ places_of v.schema v.contents (vertical_of v.schema s.plan)) is c.requires.there),
-        ),
-      ),
-    )
+    let os = operands_seen c.in-And.operands.items in
+    let is : seen_node c.args.node.now ≡ seen_list lists.And os = ap seen_node c.in-And.is ∙ seen_and c.in-And.operands in
+    (omega (arith, c.decreases, ap (λ (s : Seen). plan_size s.plan) is), (c.requires.view, list_keeps c.args.self.now (seen_node c.args.node.now) lists.And os c.args.places.now is c.requires.typed c.requires.inner c.requires.there))
 
 pub under-under_list-requires-in-Or : goal.under-under_list-requires-in-Or
 under-under_list-requires-in-Or t c =
-    let v = c.args.self.now in
-    let is : seen_node c.args.node.now ≡ seen_list lists.Or (operands_seen c.in-Or.operands.items) = ap seen_node c.in-Or.is ∙ seen_or c.in-Or.operands in (
-      omega (arith, c.decreases, ap (λ (s : Seen). plan_size s.plan) is),
-      (
-        c.requires.view,
-        (
-          subst (λ (s : Seen). IsOf v.schema s.plan (vertical_of v.schema s.plan)) is c.requires.typed,
-          (subst (λ (s : Seen). AreStated v.schema s.inner) is c.requires.inner, subst (λ (s : Seen). c.args.places.now ≡ places_of v.schema v.contents (vertical_of v.schema s.plan)) is c.requires.there),
-        ),
-      ),
-    )
+    let os = operands_seen c.in-Or.operands.items in
+    let is : seen_node c.args.node.now ≡ seen_list lists.Or os = ap seen_node c.in-Or.is ∙ seen_or c.in-Or.operands in
+    (omega (arith, c.decreases, ap (λ (s : Seen). plan_size s.plan) is), (c.requires.view, list_keeps c.args.self.now (seen_node c.args.node.now) lists.Or os c.args.places.now is c.requires.typed c.requires.inner c.requires.there))
 
 pub under-under_list-requires-in-Difference : goal.under-under_list-requires-in-Difference
 under-under_list-requires-in-Difference t c =
-    let v = c.args.self.now in
-    let is : seen_node c.args.node.now ≡ seen_list lists.Difference (operands_seen c.in-Difference.operands.items) = ap seen_node c.in-Difference.is ∙ seen_difference c.in-Difference.operands in (
-      omega (arith, c.decreases, ap (λ (s : Seen). plan_size s.plan) is),
-      (
-        c.requires.view,
-        (
-          subst (λ (s : Seen). IsOf v.schema s.plan (vertical_of v.schema s.plan)) is c.requires.typed,
-          (subst (λ (s : Seen). AreStated v.schema s.inner) is c.requires.inner, subst (λ (s : Seen). c.args.places.now ≡ places_of v.schema v.contents (vertical_of v.schema s.plan)) is c.requires.there),
-        ),
-      ),
-    )
+    let os = operands_seen c.in-Difference.operands.items in
+    let is : seen_node c.args.node.now ≡ seen_list lists.Difference os = ap seen_node c.in-Difference.is ∙ seen_difference c.in-Difference.operands in
+    (omega (arith, c.decreases, ap (λ (s : Seen). plan_size s.plan) is), (c.requires.view, list_keeps c.args.self.now (seen_node c.args.node.now) lists.Difference os c.args.places.now is c.requires.typed c.requires.inner c.requires.there))
 
 pub under-under_list-requires-in-WeakAnd : goal.under-under_list-requires-in-WeakAnd
 under-under_list-requires-in-WeakAnd t c =
-    let v = c.args.self.now in
-    let is : seen_node c.args.node.now ≡ seen_list lists.WeakAnd (operands_seen c.in-WeakAnd.operands.items) = ap seen_node c.in-WeakAnd.is ∙ seen_weak_and c.in-WeakAnd.operands in (
-      omega (arith, c.decreases, ap (λ (s : Seen). plan_size s.plan) is),
-      (
-        c.requires.view,
-        (
-          subst (λ (s : Seen). IsOf v.schema s.plan (vertical_of v.schema s.plan)) is c.requires.typed,
-          (subst (λ (s : Seen). AreStated v.schema s.inner) is c.requires.inner, subst (λ (s : Seen). c.args.places.now ≡ places_of v.schema v.contents (vertical_of v.schema s.plan)) is c.requires.there),
-        ),
-      ),
-    )
+    let os = operands_seen c.in-WeakAnd.operands.items in
+    let is : seen_node c.args.node.now ≡ seen_list lists.WeakAnd os = ap seen_node c.in-WeakAnd.is ∙ seen_weak_and c.in-WeakAnd.operands in
+    (omega (arith, c.decreases, ap (λ (s : Seen). plan_size s.plan) is), (c.requires.view, list_keeps c.args.self.now (seen_node c.args.node.now) lists.WeakAnd os c.args.places.now is c.requires.typed c.requires.inner c.requires.there))
 
 pub under-under_list-requires-in-StrongOr : goal.under-under_list-requires-in-StrongOr
 under-under_list-requires-in-StrongOr t c =
-    let v = c.args.self.now in
-    let is : seen_node c.args.node.now ≡ seen_list lists.StrongOr (operands_seen c.in-StrongOr.operands.items) = ap seen_node c.in-StrongOr.is ∙ seen_strong_or c.in-StrongOr.operands in (
-      omega (arith, c.decreases, ap (λ (s : Seen). plan_size s.plan) is),
-      (
-        c.requires.view,
-        (
-          subst (λ (s : Seen). IsOf v.schema s.plan (vertical_of v.schema s.plan)) is c.requires.typed,
-          (subst (λ (s : Seen). AreStated v.schema s.inner) is c.requires.inner, subst (λ (s : Seen). c.args.places.now ≡ places_of v.schema v.contents (vertical_of v.schema s.plan)) is c.requires.there),
-        ),
-      ),
-    )
+    let os = operands_seen c.in-StrongOr.operands.items in
+    let is : seen_node c.args.node.now ≡ seen_list lists.StrongOr os = ap seen_node c.in-StrongOr.is ∙ seen_strong_or c.in-StrongOr.operands in
+    (omega (arith, c.decreases, ap (λ (s : Seen). plan_size s.plan) is), (c.requires.view, list_keeps c.args.self.now (seen_node c.args.node.now) lists.StrongOr os c.args.places.now is c.requires.typed c.requires.inner c.requires.there))
 
 pub under-under_query-requires : goal.under-under_query-requires
 under-under_query-requires t c =
