@@ -1,0 +1,4 @@
+pub mod Lying
+pub mod Taken
+pub mod Given
+pub mod Found
