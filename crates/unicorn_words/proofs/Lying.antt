@@ -1,6 +1,6 @@
 -- Where the names of the modes lie is nothing that clap asks: a command that refers to the same names has the same
 -- faults and the same matches.
-use Rattle.std.proofs.Common.{◌≡◌, ◌∙◌, ◌&&◌, ◌==◌, refl, sym, ap, ℕ, zero, suc, Bool, true, false, cond, not, List, [], ◌∷◌, length, drop, Option, Some, None, is_some, codes}
+use Rattle.std.proofs.Common.{◌≡◌, ◌∙◌, ◌&&◌, ◌==◌, refl, sym, ap, ℕ, zero, suc, Bool, true, false, cond, List, [], ◌∷◌, length, drop, Option, Some, None, is_some, codes}
 use Rattle.std.specs.Prelude.{if◌then◌else◌, encode_utf8, find, fold, slice_get}
 use Rattle.std.specs.Option.{option_map_or}
 use Rattle.std.specs.List.{list_any}
@@ -10,12 +10,12 @@ use Rattle.clap.proofs.WalkLemmas.{list_any-map}
 use Rattle.clap.specs.Lexer.{long_of, short_of}
 use Rattle.clap.specs.Values.{same_text}
 use Rattle.clap.specs.Kinds.{Kinds, or_else, range_kinds, value_kinds, values_kinds}
-use Rattle.clap.specs.Faults.{bundle_fault, bundle_step_fault, check_fault, default_fault, defaults_fault, entered_fault, fault_of, flag_word_fault, flags_fault, long_fault, option_fault, other_fault, positional_fault, react_fault, repeat_fault, settle_fault, short_fault, step_fault, turn_fault, use_fault, walk_fault, word_fault}
-use Rattle.clap.specs.Simple.{Shape, App, built, entered, filled, filled_from, help_rule, matches_of, version_rule, with_index}
-use Rattle.clap.specs.Walk.{Held, Outcome, Row, Rule, Step, Text, Waiting, Walk, after_flag, after_step, arg_by_id, arg_by_index, arg_by_long, arg_by_short, attached_value, bundle, bundle_met, bundle_step, done, finished, flag_met, idle, is_multiple, is_pending, long_met, long_or_other, long_word, next, nothing_held, option, option_met, option_word, plain, plain_word, positional, positional_held, pushed, reacted, refused, settled, settled_rows, short_met, short_or_plain, short_word, subcommand, subcommand_met, subcommand_or_other, takes_several, takes_values, texts, to_positional, trailing, used, used_by_id, value, waits, walk, walk_from, walked, walked_from, with_default, word_met}
+use Rattle.clap.specs.Faults.{bundle_fault, bundle_step_fault, check_fault, defaults_fault, entered_fault, fault_of, flag_word_fault, flags_fault, long_fault, option_fault, other_fault, positional_fault, react_fault, repeat_fault, settle_fault, short_fault, step_fault, turn_fault, use_fault, walk_fault, word_fault}
+use Rattle.clap.specs.Simple.{App, built, entered, filled, matches_of, with_index}
+use Rattle.clap.specs.Walk.{Held, Outcome, Row, Rule, Step, Text, Waiting, Walk, after_flag, after_step, arg_by_id, arg_by_long, arg_by_short, attached_value, bundle, bundle_met, bundle_step, done, finished, flag_met, idle, is_pending, long_met, long_or_other, long_word, next, nothing_held, option, option_met, option_word, plain, plain_word, positional, positional_held, pushed, reacted, refused, settled, settled_rows, short_met, short_or_plain, short_word, subcommand, subcommand_met, subcommand_or_other, takes_several, takes_values, texts, to_positional, trailing, used, used_by_id, value, waits, walk, walk_from, walked, walked_from, with_default, word_met}
 use Rattle.clap.specs.declared.error.kind.ErrorKind.TheVariants as kind
 use Rattle.clap.specs.declared.builder.value_parser.ValueParser.TheVariants as vp
-use Rattle.unicorn_words.specs.CommandLine.{mode_argument, options, unicorn_with}
+use Rattle.unicorn_words.specs.CommandLine.{mode_argument, unicorn_with}
 
 -- the command as built, with its rules
 abbrev app : Bor (List (Bor Text)) → App

@@ -1,12 +1,11 @@
 -- From what a parse by the command says to whether its words are taken.
-use Rattle.std.proofs.Common.{arith, length, ◌≡◌, ◌∙◌, sym, ap, refl, inl, inr, true, false, List, [], ◌∷◌, map}
+use Rattle.std.proofs.Common.{arith, length, ◌≡◌, ◌∙◌, sym, ap, inl, inr, true, false, List, [], ◌∷◌, map}
 use Rattle.std.specs.Borrow.{Bor}
 use Rattle.std.proofs.lemmas.Bool.{ne_eqb}
 use Rattle.clap.specs.Words.{HasKind, IsAmong, Kinds, Text, fault_of, kind_of, matches_of}
 use Rattle.clap.specs.Walk.{is_empty, texts}
 use Rattle.clap.specs.declared.builder.value_parser.ValueParser.TheVariants as vp
 use Rattle.clap.specs.declared.error.Error.{Error}
-use Rattle.clap.specs.declared.error.kind.ErrorKind.{ErrorKind}
 use Rattle.clap.specs.declared.error.kind.ErrorKind.TheVariants.{OutOfMemory}
 use Rattle.unicorn_words.specs.Asked.{found_for}
 use Rattle.unicorn_words.specs.CommandLine.{is_taken, lent, mode_names, unicorn, unicorn_with}

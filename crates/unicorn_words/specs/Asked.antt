@@ -1,9 +1,8 @@
 -- What words that are taken ask for.
-use Rattle.std.specs.Prelude.{◌≡◌, ◌≤◌, ℕ, List, [], ◌∷◌, Option, Some, None, if◌then◌else◌, codes}
+use Rattle.std.specs.Prelude.{◌≡◌, ◌≤◌, ℕ, List, Option, Some, codes}
 use Rattle.std.specs.Prelude.{option_map}
-use Rattle.std.specs.Str.{bytes_eq}
 use Rattle.std.specs.Str.Parse.{digits_value, without_leading_plus}
-use Rattle.clap.specs.Words.{Row, Text, first_of, found_of, matches_of, one_of, rows_of}
+use Rattle.clap.specs.Words.{Row, Text, first_of, matches_of}
 use Rattle.clap.specs.Built.{IsParsedFrom}
 use Rattle.clap.specs.declared.builder.command.Command.{Command}
 use Rattle.clap.specs.declared.parser.matches.ArgMatches.{ArgMatches}
@@ -17,10 +16,10 @@ mode_text Serve = codes "serve"
 mode_text Plain = codes "plain"
 mode_text Check = codes "check"
 
--- the number that the option has in what clap found
+-- the number that the option's value spells, in what clap found
 abbrev pub number_in : List Row → Text → Option ℕ
 number_in found name =
-    option_map (λ text. digits_value 10 (without_leading_plus text)) (one_of name found)
+    option_map (λ text. digits_value 10 (without_leading_plus text)) (first_of name found)
 
 -- the settings are what clap found: the mode by its name, and each option by its number
 pub record AreFound (found : List Row) (s : Settings) : Type 0 where
@@ -36,6 +35,10 @@ found_for words = matches_of unicorn words
 -- the settings are what clap finds in the words
 abbrev pub AreAsked : List Text → Settings → Type 0
 AreAsked words = AreFound (found_for words)
+
+-- so the same words never ask for two different settings
+abbrev pub AskForOne : Type 0
+AskForOne = (words : List Text) (s t : Settings) → AreAsked words s → AreAsked words t → s ≡ t
 
 -- each number is in its option's range
 pub record AreInRange (s : Settings) : Type 0 where

@@ -1,5 +1,6 @@
--- The command `unicorn MODE [--workers N] [--seed N] [--people N]` as plain data, and which words it takes.
-use Rattle.std.specs.Prelude.{◌≡◌, ℕ, Bool, true, List, [], ◌∷◌, Some, map, codes, pos}
+-- The command `unicorn MODE [--workers N] [--seed N] [--people N]` as plain data, and which words it
+-- takes.
+use Rattle.std.specs.Prelude.{◌≡◌, Bool, true, List, [], ◌∷◌, Some, map, codes, pos}
 use Rattle.std.specs.Borrow.{Bor}
 use Rattle.clap.specs.Walk.{is_empty, texts}
 use Rattle.clap.specs.Words.{App, Rule, Text, app_of, fault_of, new_rule}

@@ -19,7 +19,12 @@ pub(crate) fn command<'a>(alloc: Global) -> Result<Command<'a>, AllocError>
         .value_parser(MODES.as_slice());
     let workers = number_option(alloc, "workers", value_parser!(u32).range(1..=64), "4");
     let seed = number_option(alloc, "seed", value_parser!(u32).range(1..=2147483646), "1");
-    let people = number_option(alloc, "people", value_parser!(u32).range(2..=100000), "1000");
+    let people = number_option(
+        alloc,
+        "people",
+        value_parser!(u32).range(2..=100000),
+        "1000",
+    );
     Command::new(alloc, "unicorn")
         .version("0.1.0")
         .arg(mode)?

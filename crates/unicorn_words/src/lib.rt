@@ -2,6 +2,9 @@
 #![tactic(auto)]
 
 mod command;
+pub mod laws;
+#[cfg(test)]
+mod tests;
 mod words;
 
 pub use words::{Mode, Settings, WordsRefusal, read_words};

@@ -14,31 +14,32 @@ use thiserror::Error;
 /// What the program is to do.
 #[derive(Clone, Copy, Debug, PartialEq, Eq)]
 pub enum Mode {
-    /// Answers a script with several workers.
+    /// Answers a script by rounds, with its workers.
     Serve,
-    /// Answers a script with none.
+    /// Answers a script line by line, with the slow evaluator.
     Plain,
-    /// Compares the answers of the two.
+    /// Writes only what is wrong with a script.
     Check,
 }
 
 /// What the words of the command line ask for.
 #[derive(Clone, Copy, Debug, PartialEq, Eq)]
 pub struct Settings {
+    /// What the program is to do. A mode that does not use an option leaves it aside.
     pub mode: Mode,
-    /// How many threads answer queries.
+    /// How many workers share the shards of a query.
     pub workers: u32,
-    /// What the made-up people and their edges are drawn from.
+    /// What a script that is made up is drawn from.
     pub seed: u32,
-    /// How many people are made up.
+    /// How many people a script that is made up has.
     pub people: u32,
 }
 
 /// Why words are not taken.
 #[derive(Clone, Copy, Debug, PartialEq, Eq, Error)]
 pub enum WordsRefusal {
-    /// The program has no such command line. A request for help or the version is one.
-    #[error("the program has no such command line")]
+    /// The program takes no such words. It takes no request for help or for the version either.
+    #[error("the program takes no such words")]
     Usage,
     /// Memory ran out.
     #[error("out of memory")]
@@ -73,12 +74,14 @@ impl From<clap::Error> for WordsRefusal {
     }
 }
 
-/// Reads the words of the command line. The first is the program's name.
+/// Reads the words of the command line, of which the first is the program's name. Where memory runs
+/// out nothing is said of the words.
 pub fn read_words(alloc: Global, words: &[String]) -> Result<Settings, WordsRefusal>
     ensures taken { IfOk result (λ _. is_taken (map string_bytes words.now) ≡ true) }
     ensures asked { IfOk result (AreAsked (map string_bytes words.now)) }
     ensures ranges { IfOk result AreInRange }
-    ensures usage { result ≡ Err WordsRefusal.Usage → is_taken (map string_bytes words.now) ≡ false }
+    ensures usage { result ≡ Err WordsRefusal.Usage
+        → is_taken (map string_bytes words.now) ≡ false }
 {
     let matches = command(alloc)?.try_get_matches_from(words)?;
     Ok(settings_in(&matches))

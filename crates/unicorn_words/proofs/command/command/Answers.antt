@@ -1,8 +1,8 @@
-use Rattle.std.proofs.Common.{rules, ap, ap₂, refl, codes, true, false, List, [], ◌∷◌, ◌≡◌, ◌∙◌, Option, Some}
+use Rattle.std.proofs.Common.{rules, ap, ap₂, codes, true, false, ◌≡◌, ◌∙◌, Option, Some}
 use Rattle.std.specs.Prelude.{pos}
 use Rattle.std.proofs.lemmas.Result.{IfOk-weaker}
 use Rattle.clap.specs.Walk.{texts}
-use Rattle.clap.specs.Words.{App, Rule, app_of, new_rule, rule_of, with_rule}
+use Rattle.clap.specs.Words.{Rule, new_rule, rule_of, with_rule}
 use Rattle.clap.specs.Simple.{app_of_fields, on_top}
 use Rattle.clap.specs.declared.builder.arg.Arg.{Arg}
 use Rattle.clap.specs.declared.builder.action.ArgAction.TheVariants.{Set}
@@ -35,6 +35,10 @@ returns c =
     ∙ ap₂ with_rule with_mode (c.number_option-workers.ensures.rule ∙ ap (λ (q : ValueParser). number_option (codes "workers") q (codes "4")) to_64) in
     let with_seed = c.in_ok-arg-3.ensures.shape c.number_option-seed.ensures.local
     ∙ ap₂ with_rule with_workers (c.number_option-seed.ensures.rule ∙ ap (λ (q : ValueParser). number_option (codes "seed") q (codes "1")) to_max) in
-    IfOk-weaker c.arg-4.result _ _ (λ r h. (names, named, h.shape c.number_option-people.ensures.local
-    ∙ ap₂ with_rule with_seed (c.number_option-people.ensures.rule ∙ ap (λ (q : ValueParser). number_option (codes "people") q (codes "1000")) to_100000)))
+    IfOk-weaker c.arg-4.result _ _ (λ r h. (
+      names,
+      named,
+      h.shape c.number_option-people.ensures.local
+          ∙ ap₂ with_rule with_seed (c.number_option-people.ensures.rule ∙ ap (λ (q : ValueParser). number_option (codes "people") q (codes "1000")) to_100000),
+    ))
     c.arg-4.ensures

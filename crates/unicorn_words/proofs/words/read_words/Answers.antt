@@ -1,6 +1,6 @@
-use Rattle.std.proofs.Common.{ap, refl, sym, subst, ◌≡◌, ◌∙◌, List, map}
+use Rattle.std.proofs.Common.{ap, sym, subst, ◌∙◌, List, map}
 use Rattle.std.specs.String.{string_bytes}
-use Rattle.clap.specs.Words.{App, HasKind, Row, Text, app_of, fault_of, found_of, is_simple, is_simple_and_free, matches_of, rows_of}
+use Rattle.clap.specs.Words.{App, HasKind, Row, Text, fault_of, is_simple, is_simple_and_free, matches_of}
 use Rattle.unicorn_words.specs.Asked.{AreFound}
 use Rattle.unicorn_words.proofs.Taken.{at_fault, faultless, matches_are}
 use Rattle.unicorn_words.proofs.words.read_words.Goals as goal

@@ -1,4 +1,4 @@
-use Rattle.std.proofs.Common.{ap, refl, sym, subst, ◌≡◌, ◌∙◌, ℕ, List, [], Option, Some, codes}
+use Rattle.std.proofs.Common.{ap, refl, sym, subst, ◌≡◌, ◌∙◌, [], Option, Some, codes}
 use Rattle.std.specs.Prelude.{MatchOption, option_map, unwrap_or}
 use Rattle.std.specs.Borrow.{Bor}
 use Rattle.std.specs.Str.Parse.{ExplainsUnsignedError, HasUnsignedDigitsIfOk, ParsesUnsigned}
