@@ -1,5 +1,5 @@
 -- The first line of an answer, and what it says.
-use Rattle.std.specs.Prelude.{ℕ, List, [], ◌∷◌, codes, length}
+use Rattle.std.specs.Prelude.{ℕ, List, [], ◌∷◌, ◌++◌, codes, length}
 use Rattle.std.specs.Fmt.{decimal}
 use Rattle.uni_base.specs.Fields.{spaced}
 use Rattle.uni_schema.specs.Schema.{Declarations}
@@ -35,19 +35,27 @@ head_of (Memory line) = lacking line
 head_of (Tidied vertical shard replica number) = tidied vertical shard replica number
 head_of (Untidied vertical shard replica) = untidied vertical shard replica
 
--- the fields of that line: numbers in decimal, and a vertical by its name
+-- the fields of a line that counts those that follow it: `at` stands before a number of publishes
+abbrev pub counted_fields : List ℕ → ℕ → ℕ → List ℕ → ℕ → List (List ℕ)
+counted_fields word line publishes noun count = word ∷ decimal line ∷ codes "at" ∷ decimal publishes ∷ noun ∷ decimal count ∷ []
+
+-- the fields of a line of a stack: a vertical stands there by its name
+abbrev pub stack_fields : List ℕ → Declarations → ℕ → ℕ → ℕ → List (List ℕ)
+stack_fields word schema vertical shard replica = word ∷ vertical_name schema vertical ∷ decimal shard ∷ decimal replica ∷ []
+
+-- the fields of the first line
 abbrev pub head_fields : Declarations → Head → List (List ℕ)
 head_fields schema (published line number) = first_words.published ∷ decimal line ∷ decimal number ∷ []
-head_fields schema (replied line number count) = first_words.reply ∷ decimal line ∷ codes "at" ∷ decimal number ∷ codes "hits" ∷ decimal count ∷ []
+head_fields schema (replied line number count) = counted_fields first_words.reply line number (codes "hits") count
 head_fields schema (compacted line number) = first_words.compacted ∷ decimal line ∷ decimal number ∷ []
-head_fields schema (counted line number count) = first_words.stats ∷ decimal line ∷ codes "at" ∷ decimal number ∷ codes "stacks" ∷ decimal count ∷ []
+head_fields schema (counted line number count) = counted_fields first_words.stats line number (codes "stacks") count
 head_fields schema (refused line code) = first_words.refused ∷ decimal line ∷ decimal code ∷ []
 head_fields schema (fault line code) = first_words.error ∷ decimal line ∷ decimal code ∷ []
 head_fields schema (query_fault line code column) = first_words.error ∷ decimal line ∷ decimal code ∷ decimal column ∷ []
 head_fields schema (lacking line) = first_words.memory ∷ decimal line ∷ []
-head_fields schema (tidied vertical shard replica number) = first_words.tidied ∷ vertical_name schema vertical ∷ decimal shard ∷ decimal replica ∷ decimal number ∷ []
-head_fields schema (untidied vertical shard replica) = first_words.untidied ∷ vertical_name schema vertical ∷ decimal shard ∷ decimal replica ∷ []
+head_fields schema (tidied vertical shard replica number) = stack_fields first_words.tidied schema vertical shard replica ++ decimal number ∷ []
+head_fields schema (untidied vertical shard replica) = stack_fields first_words.untidied schema vertical shard replica
 
--- the line, with one space between any two fields
+-- that line, with one space between any two fields
 abbrev pub head_line : Declarations → Head → List ℕ
 head_line schema head = spaced (head_fields schema head)

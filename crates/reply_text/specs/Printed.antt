@@ -8,13 +8,12 @@ use Rattle.uni_base.specs.declared.edge.EdgeRef.{EdgeRef}
 use Rattle.uni_base.specs.declared.edge.Key.{Key}
 use Rattle.uni_base.specs.declared.edge.Key.TheVariants.{Id, Word}
 use Rattle.uni_schema.specs.Schema.{Declarations, type_at}
-use Rattle.uni_schema.specs.Print.{vertical_name}
 use Rattle.uni_meaning.specs.declared.reply.Hit.{Hit}
 use Rattle.reply_text.specs.declared.answer.Answer.{Answer}
 use Rattle.reply_text.specs.declared.answer.Answer.TheVariants.{Reply, Stats, Tidied, Untidied}
 use Rattle.reply_text.specs.declared.answer.StackRow.{StackRow}
 use Rattle.reply_text.specs.FirstWords.{first_words}
-use Rattle.reply_text.specs.Heads.{head_of, head_line}
+use Rattle.reply_text.specs.Heads.{head_of, head_line, stack_fields}
 use Rattle.reply_text.specs.Lines.{text_of}
 
 -- the name of a type by its number, or nothing where it is not declared
@@ -40,7 +39,7 @@ hit_line schema hit = spaced (first_words.hit ∷ decimal hit.key.id ∷ codes "
 
 -- the line of a stack: where it stands, and how many layers it has
 abbrev pub stack_line : Declarations → StackRow → List ℕ
-stack_line schema row = spaced (first_words.stack ∷ vertical_name schema row.vertical ∷ decimal row.shard ∷ decimal row.replica ∷ codes "layers" ∷ decimal row.layers ∷ [])
+stack_line schema row = spaced (stack_fields first_words.stack schema row.vertical row.shard row.replica ++ codes "layers" ∷ decimal row.layers ∷ [])
 
 -- the lines of an answer after its first: one for each hit of a reply, and for each stack of `stats`
 abbrev pub further_lines : Declarations → Answer → List (List ℕ)

@@ -1,6 +1,7 @@
-ghost use Rattle.std.specs.Prelude.{◌≡◌, ◌++◌, ◌∷◌, [], map, OnOk};
+ghost use Rattle.std.specs.Prelude.{◌≡◌, ◌++◌, ◌∷◌, map, OnOk};
 ghost use Rattle.std.specs.Fmt.{decimal};
 ghost use Rattle.uni_base.specs.Fields.{spaced};
+ghost use Rattle.reply_text.specs.Heads.{stack_fields};
 ghost use Rattle.uni_schema.specs.Print.{vertical_name};
 
 use itoa::Buffer;
@@ -52,7 +53,7 @@ pub(crate) fn add_stack(
     shard: u32,
     replica: u32,
 ) -> Result<(), AllocError>
-    ensures { OnOk result (text.new ≡ text.old ++ spaced (word.now ∷ vertical_name schema.now vertical ∷ decimal shard ∷ decimal replica ∷ [])) }
+    ensures { OnOk result (text.new ≡ text.old ++ spaced (stack_fields word.now schema.now vertical shard replica)) }
 {
     text.extend_from_slice(word)?;
     add_vertical(text, schema, vertical)?;

@@ -1,7 +1,6 @@
-ghost use Rattle.std.specs.Prelude.{◌≡◌, ◌++◌, ◌∷◌, [], codes, OnOk};
-ghost use Rattle.std.specs.Fmt.{decimal};
+ghost use Rattle.std.specs.Prelude.{◌≡◌, ◌++◌, OnOk};
 ghost use Rattle.uni_base.specs.Fields.{spaced};
-ghost use Rattle.reply_text.specs.Heads.{head_line, head_of};
+ghost use Rattle.reply_text.specs.Heads.{counted_fields, head_line, head_of};
 
 use crate::Answer;
 use crate::field::{add_field, add_number, add_numbers, add_stack};
@@ -21,14 +20,8 @@ pub(crate) fn add_head(text: &mut Text, schema: &Schema, answer: &Answer) -> Res
         }
         Answer::Compacted(line, number) => add_numbers(text, b"compacted", &[*line, *number]),
         Answer::Stats(line, publishes, stacks) => {
-            add_counted(
-                text,
-                b"stats",
-                *line,
-                *publishes,
-                b"stacks",
-                stacks.len() as u64,
-            )
+            let count = stacks.len() as u64;
+            add_counted(text, b"stats", *line, *publishes, b"stacks", count)
         }
         Answer::Refused(line, code) => add_numbers(text, b"refused", &[*line, *code as u64]),
         Answer::Fault(line, code) => add_numbers(text, b"error", &[*line, *code as u64]),
@@ -55,7 +48,7 @@ fn add_counted(
     noun: &[u8],
     count: u64,
 ) -> Result<(), AllocError>
-    ensures { OnOk result (text.new ≡ text.old ++ spaced (word.now ∷ decimal line ∷ codes "at" ∷ decimal publishes ∷ noun.now ∷ decimal count ∷ [])) }
+    ensures { OnOk result (text.new ≡ text.old ++ spaced (counted_fields word.now line publishes noun.now count)) }
 {
     text.extend_from_slice(word)?;
     add_number(text, line)?;

@@ -7,6 +7,8 @@ mod field;
 mod further;
 mod head;
 pub mod laws;
+#[cfg(test)]
+mod tests;
 mod write;
 
 pub use answer::{Answer, StackRow, StackRows};
