@@ -1,3 +1,4 @@
+mod CheckSteps
 mod Complete
 mod Items
 mod JournalSteps

@@ -96,7 +96,7 @@ one_more_answered terms s entries entry mid after drafts more a b = record {
         (subst (λ (at : Standing). IsLater at.feed.journal end.feed.journal) last later)
 
 -- no stack is left untidied
-none_untidied : (number : ℕ) (covers : List StackCover) → due_untidied number [] covers ≡ []
+pub none_untidied : (number : ℕ) (covers : List StackCover) → due_untidied number [] covers ≡ []
 none_untidied number [] = refl
 none_untidied number (cover ∷ covers) = by (none_untidied number covers) (is_due number cover)
   where

@@ -22,10 +22,10 @@ use Rattle.unicorn_round.specs.Records.{IsMarked}
 use Rattle.unicorn_round.specs.Stacks.{covering}
 use Rattle.unicorn_round.proofs.JournalSteps.{after_commands-snoc, accepts_commands-snoc, fold_of-snoc, first-later}
 
-lt_true : (a b : ℕ) → a < b → nat_lt a b ≡ true
+pub lt_true : (a b : ℕ) → a < b → nat_lt a b ≡ true
 lt_true a b below = grind (arith, nat_tests)
 
-lt_false : (a b : ℕ) → b ≤ a → nat_lt a b ≡ false
+pub lt_false : (a b : ℕ) → b ≤ a → nat_lt a b ≡ false
 lt_false a b above = grind (arith, nat_tests)
 
 -- an entry that has no effect
@@ -92,7 +92,7 @@ change_refused serving s line command refusal code st some is = record {
     coded = rw is refl
 
 -- an entry for which memory was wanting has no effect
-after_lacking : (terms : Terms) (s : Standing) (entry : Entry) → after_entry terms s entry lacking ≡ s
+pub after_lacking : (terms : Terms) (s : Standing) (entry : Entry) → after_entry terms s entry lacking ≡ s
 after_lacking terms s (change line command) = refl
 after_lacking terms s (publish line) = refl
 after_lacking terms s (ask line session viewer limit query) = refl

@@ -1,4 +1,6 @@
 pub mod Answers
+pub mod CheckLaws
+pub mod CheckState
 pub mod Checking
 pub mod Completeness
 pub mod Feeds

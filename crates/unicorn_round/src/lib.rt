@@ -2,19 +2,20 @@
 #![tactic(auto)]
 
 mod answering;
+mod checker;
 mod chooser;
 mod gate;
 mod header;
+mod modes;
 mod refusal;
 mod script;
 mod serial;
-mod serve;
 mod stacks;
 mod status;
 mod write;
 
 pub use chooser::{Chooser, FirstChooser, TurnChooser};
 pub use gate::{Gate, OpenGate, Point};
-pub use serve::{run_plain, serve_rounds};
+pub use modes::{check_script, run_plain, serve_rounds};
 pub use stacks::StackCover;
 pub use status::Status;

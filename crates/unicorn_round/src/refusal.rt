@@ -6,3 +6,6 @@ pub(crate) enum PublishRefusal {
     /// Memory was wanting.
     Memory,
 }
+
+/// The code of a publish at the limit.
+pub(crate) const TOO_MANY_PUBLISHES: u32 = 51;

@@ -15,7 +15,7 @@ ghost use Rattle.unicorn_round.specs.Stacks.{covering};
 mod round;
 
 use crate::answering::Answering;
-use crate::refusal::PublishRefusal;
+use crate::refusal::{PublishRefusal, TOO_MANY_PUBLISHES};
 use crate::stacks::Stacks;
 use query_check::Checked;
 use reply_text::{Answer, StackRows};
@@ -263,8 +263,6 @@ impl Answering for Serial {
 
     ghost nothing = { plain_nothing };
 }
-
-const TOO_MANY_PUBLISHES: u32 = 51;
 
 // An item at the end of others.
 fn add<T: Copy + Drop>(items: &mut Vec<T>, item: T) -> Result<(), AllocError>

@@ -1,10 +1,12 @@
 ghost use Rattle.std.specs.Prelude.{◌≤◌};
 ghost use Rattle.uni_base.specs.StandardLimits.{IsWithinStandard};
+ghost use Rattle.unicorn_round.specs.Checking.{checked_line};
 ghost use Rattle.unicorn_round.specs.Completeness.{Completes};
-ghost use Rattle.unicorn_round.specs.Modes.{Serves, AnswersPlainly, nothing_more};
+ghost use Rattle.unicorn_round.specs.Modes.{AnswersPlainly, Checks, Serves, nothing_more};
 ghost use Rattle.unicorn_round.specs.Outcome.{Ran};
 ghost use Rattle.unicorn_round.specs.Statuses.{ReadFaultsFit, WriteFaultsFit};
 
+use crate::checker::Checker;
 use crate::chooser::Chooser;
 use crate::gate::Gate;
 use crate::script::answer_script;
@@ -61,4 +63,20 @@ pub fn run_plain<S: Source, K: Sink>(
     ensures complete { Completes limits (S.left source.old) (S.faults source.old) (S.faults source.new) (K.faults sink.old) (K.faults sink.new) result }
 {
     answer_script::<Serial, S, K>(alloc, limits, source, sink)
+}
+
+/// Says what is wrong with the lines of a script, and how many lines it has: the mode `check`.
+pub fn check_script<S: Source, K: Sink>(
+    alloc: Global,
+    limits: Limits,
+    source: &mut S,
+    sink: &mut K,
+) -> Status
+    requires { IsWithinStandard limits }
+    ensures ran { Ran limits Checks checked_line (S.left source.old) (S.left source.new) (K.taken sink.old) (K.taken sink.new) result }
+    ensures reads { ReadFaultsFit result (S.faults source.old) (S.faults source.new) }
+    ensures writes { WriteFaultsFit result (K.faults sink.old) (K.faults sink.new) }
+    ensures complete { Completes limits (S.left source.old) (S.faults source.old) (S.faults source.new) (K.faults sink.old) (K.faults sink.new) result }
+{
+    answer_script::<Checker, S, K>(alloc, limits, source, sink)
 }

@@ -1,7 +1,7 @@
 use Rattle.unicorn_round.specs.Modes.{Serves, AnswersPlainly, nothing_more}
 use Rattle.unicorn_round.proofs.Complete.{completes, ran_weaker}
 use Rattle.unicorn_round.proofs.Served.{plain_serves}
-use Rattle.unicorn_round.proofs.serve.serve_rounds.Goals as goal
+use Rattle.unicorn_round.proofs.modes.serve_rounds.Goals as goal
 
 pub returns-clause-ran : goal.returns-clause-ran
 returns-clause-ran g c =

@@ -1,6 +1,6 @@
 use Rattle.unicorn_round.specs.Modes.{AnswersPlainly, nothing_more}
 use Rattle.unicorn_round.proofs.Complete.{completes}
-use Rattle.unicorn_round.proofs.serve.run_plain.Goals as goal
+use Rattle.unicorn_round.proofs.modes.run_plain.Goals as goal
 
 pub returns-clause-complete : goal.returns-clause-complete
 returns-clause-complete g c =

@@ -1,0 +1,46 @@
+use Rattle.std.proofs.Common.{◌≡◌, ◌+◌, ◌++◌, ◌∷◌, [], List, take, sym, ap, ◌∙◌, subst, refl, option_to_list}
+use Rattle.std.proofs.lemmas.List.{take_more}
+use Rattle.reply_text.specs.Printed.{answers_text}
+use Rattle.script_rounds.specs.declared.item.Item.{Item}
+use Rattle.script_rounds.specs.Entries.{AreItemsOf}
+use Rattle.script_rounds.specs.Fits.{ItemFits}
+use Rattle.script_rounds.specs.Terms.{Terms}
+use Rattle.unicorn_round.specs.Answers.{after_entries}
+use Rattle.unicorn_round.specs.CheckState.{EntryChecked, EntriesChecked}
+use Rattle.unicorn_round.proofs.CheckSteps.{none_checked, one_more_checked}
+use Rattle.unicorn_round.proofs.Items.{item_fits_at, no_entries, split_last}
+use Rattle.unicorn_round.proofs.checker.Checker.check_items.Goals as goal
+
+pub loop-item-init : goal.loop-item-init
+loop-item-init c = record {
+  terms = refl;
+  checked = λ entries s of st.
+      subst (EntriesChecked c.args.self.now.terms s entries c.args.self.now) (sym c.new-text.ensures)
+      (subst (λ es. EntriesChecked c.args.self.now.terms s es c.args.self.now []) (sym (no_entries entries of)) (none_checked c.args.self.now s st));
+}
+
+pub answer-answer-requires : goal.answer-answer-requires
+answer-answer-requires c =
+    subst (λ (t : Terms). ItemFits t c.item-item.result) (sym c.loop-item.invariant.terms)
+    (subst (ItemFits c.args.self.now.terms) (sym c.item-item.is) (item_fits_at c.args.self.now.terms c.args.items.now c.loop-item.item-index c.item-item.result c.requires c.loop-item-test.true))
+
+pub loop-item-preserved : goal.loop-item-preserved
+loop-item-preserved c =
+    let terms = c.args.self.now.terms in
+    let same : c.answer-answer.new.self.terms ≡ terms = c.answer-answer.ensures.terms ∙ c.loop-item.invariant.terms in
+    record {
+      terms = same;
+      checked = λ entries s of st.
+          let all = c.args.items.now in
+          let i = c.loop-item.item-index in
+          let item = c.item-item.result in
+          let one : take (i + 1) all ≡ take i all ++ item ∷ [] = take_more all i item c.loop-item-test.true ∙ ap (λ (x : Item). take i all ++ x ∷ []) (sym c.item-item.is) in
+          let split = split_last entries (take i all) item (subst (AreItemsOf entries) one of) in
+          let a = c.loop-item.invariant.checked split.front s split.are st in
+          let now = after_entries terms s split.front a.marks in
+          let more = option_to_list c.answer-answer.result in
+          let b = subst (λ (t : Terms). EntryChecked t now split.entry c.answer-answer.new.self more) c.loop-item.invariant.terms (c.answer-answer.ensures.checked split.entry now split.last a.stands) in
+          subst (EntriesChecked terms s entries c.answer-answer.new.self) (sym (c.in_ok-add.ensures ∙ ap (λ (t : Terms). c.loop-item.text ++ answers_text t.schema more) same))
+          (subst (λ es. EntriesChecked terms s es c.answer-answer.new.self (c.loop-item.text ++ answers_text terms.schema more)) (sym split.is)
+          (one_more_checked terms s split.front split.entry c.loop-item.self c.answer-answer.new.self c.loop-item.text more a b));
+    }

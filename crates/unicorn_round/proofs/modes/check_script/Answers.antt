@@ -1,0 +1,10 @@
+use Rattle.unicorn_round.specs.Checking.{checked_line}
+use Rattle.unicorn_round.specs.Modes.{Checks}
+use Rattle.unicorn_round.proofs.Complete.{completes}
+use Rattle.unicorn_round.proofs.modes.check_script.Goals as goal
+
+pub returns-clause-complete : goal.returns-clause-complete
+returns-clause-complete g c =
+    completes c.args.limits Checks checked_line (g.S.Source.left c.args.source.now) (g.S.Source.left c.answer_script.new.source)
+    (g.K.Sink.taken c.args.sink.now) (g.K.Sink.taken c.answer_script.new.sink) (g.S.Source.faults c.args.source.now) (g.S.Source.faults c.answer_script.new.source)
+    (g.K.Sink.faults c.args.sink.now) (g.K.Sink.faults c.answer_script.new.sink) c.answer_script.result c.answer_script.ensures.ran c.answer_script.ensures.reads c.answer_script.ensures.writes

@@ -1,0 +1,56 @@
+-- Checking line by line.
+use Rattle.std.specs.Prelude.{ℕ, Bool, ◌≡◌, List, [], length, ◌++◌}
+use Rattle.uni_table.specs.Contents.{Contents, empty}
+use Rattle.reply_text.specs.declared.answer.Answer.{Answer}
+use Rattle.reply_text.specs.Lines.{text_of}
+use Rattle.reply_text.specs.Printed.{lines_of_answers}
+use Rattle.script_rounds.specs.Entries.{Entry}
+use Rattle.script_rounds.specs.Terms.{Terms}
+use Rattle.unicorn_round.specs.Answers.{Standing, opening_standing, after_entry, after_entries, after_rounds, answers, entry_answers, entries_answers, replies}
+use Rattle.unicorn_round.specs.Checking.{checked_lines, checked_text}
+use Rattle.unicorn_round.specs.Feeds.{made}
+use Rattle.unicorn_round.specs.Marks.{Mark, Record}
+use Rattle.unicorn_round.specs.Plain.{Lacks, plain_mark, plain_marks, plain_record}
+use Rattle.unicorn_round.specs.Records.{IsMarked, AreMarked, IsRecord}
+
+-- where a check stands: the table with what is pending, and how many publishes were made
+pub record CheckState : Type 0 where
+  pub terms : Terms
+  pub table : Contents
+  pub publishes : ℕ
+
+abbrev pub opening_check : Terms → CheckState
+opening_check terms = record { terms = terms; table = empty; publishes = 0 }
+
+-- a check stands for a place in a script
+pub record ChecksFor (state : CheckState) (s : Standing) : Type 0 where
+  pub table : state.table ≡ s.feed.table
+  pub publishes : state.publishes ≡ made s.feed
+
+-- an entry was checked: whatever its round's end is, these are its answers, of those that `check` writes
+pub record EntryChecked (terms : Terms) (s : Standing) (entry : Entry) (after : CheckState) (shown : List Answer) : Type 0 where
+  pub lacks : Bool
+  pub marked : IsMarked entry (plain_mark (made s.feed) entry lacks)
+  pub stands : ChecksFor after (after_entry terms s entry (plain_mark (made s.feed) entry lacks))
+  pub lines : (end : Standing) → checked_lines terms.schema (entry_answers terms (replies terms.schema) end s.feed entry (plain_mark (made s.feed) entry lacks)) ≡ lines_of_answers terms.schema shown
+
+-- so were entries, one after the other, and a text is that of their lines
+pub record EntriesChecked (terms : Terms) (s : Standing) (entries : List Entry) (after : CheckState) (text : List ℕ) : Type 0 where
+  pub lacks : Lacks
+  pub one_each : length lacks ≡ length entries
+  pub marks : List Mark
+  pub are : marks ≡ plain_marks terms s entries lacks
+  pub marked : AreMarked entries marks
+  pub stands : ChecksFor after (after_entries terms s entries marks)
+  pub writes : (end : Standing) → text ≡ checked_text terms.schema (entries_answers terms (replies terms.schema) end s entries marks)
+
+-- so were rounds
+pub record RoundsChecked (terms : Terms) (rounds : List (List Entry)) (after : CheckState) (text : List ℕ) : Type 0 where
+  pub is_under : after.terms ≡ terms
+  pub lacks : List Lacks
+  pub one_each : length lacks ≡ length rounds
+  pub told : Record
+  pub is : told ≡ plain_record terms rounds lacks
+  pub is_record : IsRecord terms rounds told
+  pub stands : ChecksFor after (after_rounds terms (opening_standing terms) rounds told)
+  pub writes : text ≡ checked_text terms.schema (answers terms rounds told)
