@@ -12,4 +12,5 @@ mod Served
 mod ServingSteps
 mod Steps
 mod Texts
+mod Words
 mod WriteSteps

@@ -43,7 +43,7 @@ took_part_after before middle after xs ys t p = (
 )
 
 -- no text answers no rounds, whatever the script
-none_answered : (limits : Limits) (says : Claim) → ((of : Terms) → says of [] []) → (script : Script) → AnswersFirst limits says script []
+pub none_answered : (limits : Limits) (says : Claim) → ((of : Terms) → says of [] []) → (script : Script) → AnswersFirst limits says script []
 none_answered limits says nothing (opened schema rounds) = (0, nothing (under limits schema))
 none_answered limits says nothing (unopened refusal) = refl
 

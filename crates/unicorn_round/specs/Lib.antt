@@ -17,4 +17,5 @@ pub mod Serving
 pub mod Stacks
 pub mod Statuses
 pub mod Steps
+pub mod Usage
 pub mod Writing
