@@ -4,7 +4,6 @@
 ghost use Rattle.std.specs.Prelude.{◌≡◌, [], IfOk, IfErr, IsErr, ◌↔◌};
 ghost use Rattle.std.specs.IoError.{error_kind};
 
-use first_round::{OpenGate, Status, TurnChooser, run};
 use std::alloc::Global;
 use std::env::Env;
 use std::io::{ErrorKind, Read, Write};
@@ -13,6 +12,7 @@ use std::sync::Wait;
 use std::thread::Threads;
 use std::{env, io};
 use uni_base::{StdSink, StdSource};
+use unicorn_round::{OpenGate, Status, TurnChooser, run};
 
 /// Runs the program over its words, with a script from `input` and its answers to `output`, and says
 /// with what it ends.

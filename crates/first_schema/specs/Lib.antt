@@ -1,3 +1,0 @@
-pub mod Header
-pub mod Refusals
-pub mod Schema
