@@ -2,6 +2,7 @@ mod CheckSteps
 mod Complete
 mod Items
 mod JournalSteps
+mod Lines
 mod Lists
 mod PlainLegal
 mod RanSteps
@@ -11,6 +12,7 @@ mod RoundSteps
 mod Served
 mod ServingSteps
 mod Steps
+mod Telling
 mod Texts
 mod Words
 mod WriteSteps

@@ -5,6 +5,7 @@ pub mod Checking
 pub mod Completeness
 pub mod Feeds
 pub mod Headers
+pub mod Laws
 pub mod Legal
 pub mod Marks
 pub mod Modes

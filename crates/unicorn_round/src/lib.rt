@@ -6,6 +6,7 @@ mod checker;
 mod chooser;
 mod gate;
 mod header;
+pub mod laws;
 mod modes;
 mod program;
 mod refusal;
