@@ -24,7 +24,6 @@ use Rattle.script_rounds.specs.Terms.{Terms}
 use Rattle.unicorn_round.specs.declared.stacks.StackCover.{StackCover}
 use Rattle.unicorn_round.specs.Answers.{Standing, opening_standing, after_entry, after_entries, after_round, at_end, answers, entry_answers, entries_answers, round_answers, rounds_answers, replies}
 use Rattle.unicorn_round.specs.Feeds.{Feed, made, refusal_answers, publish_answers, too_many_publishes}
-use Rattle.unicorn_round.specs.Laws.{AnswersTell}
 use Rattle.unicorn_round.specs.Marks.{Mark, plain, lacking, at, StackName, RoundRecord, Record}
 use Rattle.unicorn_round.specs.Records.{IsMarked, AreMarked, IsRoundRecord, IsRecordFrom, IsRecord}
 use Rattle.unicorn_round.specs.Stacks.{is_due, is_untidied, due_untidied, tidy_answer, tidy_answers, name_of}
@@ -395,8 +394,3 @@ module _ (terms : Terms) where
   pub heads_tell : (rounds : List (List Entry)) (low high : ℕ) (told other : Record) → Rise low high (map line_of (all_entries rounds))
       → IsRecord terms rounds told → IsRecord terms rounds other → map head_of (answers terms rounds told) ≡ map head_of (answers terms rounds other) → told ≡ other
   heads_tell rounds low high told other rise a b same = rounds-tell (opening_standing terms) rounds low high told other rise a b same
-
-pub answers_tell : AnswersTell
-answers_tell = record {
-  values = λ terms rounds low high rise told other a b same. heads_tell terms rounds low high told other rise a b (ap (map head_of) same);
-}

@@ -1,8 +1,12 @@
-//! Laws about definitions, each the contract of a function that does nothing.
+//! Laws about definitions, each the contract of a function that does nothing of its own.
 ghost use Rattle.unicorn_round.specs.Laws.{AnswersTell};
 
-/// Equal answers are those of equal records.
-#[tactic(auto, using(crate::proofs::Telling::answers_tell))]
+/// Equal answers are those of equal records, and so are answers of one text.
 pub fn answers_tell()
     ensures { AnswersTell }
-{}
+{
+    script_rounds::laws::numbers_rise();
+    script_rounds::laws::words_are_unbroken();
+    reply_text::laws::lines_are_unbroken();
+    reply_text::laws::heads_by_text();
+}

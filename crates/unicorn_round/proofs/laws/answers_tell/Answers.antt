@@ -1,0 +1,5 @@
+use Rattle.unicorn_round.proofs.TextTelling.{answers_tell}
+use Rattle.unicorn_round.proofs.laws.answers_tell.Goals as goal
+
+pub returns : goal.returns
+returns c = answers_tell c.numbers_rise.ensures c.words_are_unbroken.ensures c.lines_are_unbroken.ensures c.heads_by_text.ensures
