@@ -16,20 +16,9 @@ use Rattle.unicorn_round.specs.Answers.{Standing, opening_standing, after_entry,
 use Rattle.unicorn_round.specs.Feeds.{Feed, made, fed_one}
 use Rattle.unicorn_round.specs.Marks.{Mark, plain, lacking, at, lacks, StackName, RoundRecord}
 use Rattle.unicorn_round.specs.Stacks.{bare, stacks_in, stacks_from, is_stack, covered, is_due, is_untidied, tidy}
+use Rattle.unicorn_round.proofs.Elements.{all-append, all-map, all-flat_map}
 use Rattle.unicorn_round.proofs.Ranges.{HasWhole}
 use Rattle.unicorn_round.proofs.Wholes.{IsWhole, AreWhole}
-
-pub all-append : {X : Type 0} (P : X → Type 0) (xs ys : List X) → AllByRecursion P xs → AllByRecursion P ys → AllByRecursion P (xs ++ ys)
-all-append P [] ys all more = more
-all-append P (x ∷ xs) ys all more = (all.0, all-append P xs ys all.1 more)
-
-pub all-map : {X Y : Type 0} (P : X → Type 0) (Q : Y → Type 0) (f : X → Y) → ((x : X) → P x → Q (f x)) → (xs : List X) → AllByRecursion P xs → AllByRecursion Q (map f xs)
-all-map P Q f so [] all = tt
-all-map P Q f so (x ∷ xs) all = (so x all.0, all-map P Q f so xs all.1)
-
-all-flat_map : {X Y : Type 0} (P : X → Type 0) (Q : Y → Type 0) (f : X → List Y) → ((x : X) → P x → AllByRecursion Q (f x)) → (xs : List X) → AllByRecursion P xs → AllByRecursion Q (flat_map f xs)
-all-flat_map P Q f so [] all = tt
-all-flat_map P Q f so (x ∷ xs) all = all-append Q (f x) (flat_map f xs) (so x all.0) (all-flat_map P Q f so xs all.1)
 
 range-below : (a n high : ℕ) → a + n ≤ high → AllByRecursion (λ k. k ≤ high) (range_with_len a n)
 range-below a zero high below = tt

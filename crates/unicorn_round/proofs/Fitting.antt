@@ -1,5 +1,5 @@
 -- What holds of each answer.
-use Rattle.std.proofs.Common.{◌≤◌, ◌<◌, ◌+◌, ◌^◌, ◌==◌, ℕ, Bool, true, false, List, [], ◌∷◌, ◌++◌, length, map, filter, nat_lt, if◌then◌else◌, Option, None, Some, refl, arith}
+use Rattle.std.proofs.Common.{◌≤◌, ◌<◌, ◌+◌, ◌^◌, ◌==◌, ℕ, Bool, true, false, List, [], ◌∷◌, length, map, filter, nat_lt, if◌then◌else◌, Option, None, Some, refl, arith}
 use Rattle.std.proofs.lemmas.List.{length-map}
 use Rattle.std.specs.List.{AllByRecursion}
 use Rattle.uni_base.specs.StandardLimits.{IsWithinStandard}
@@ -24,7 +24,8 @@ use Rattle.unicorn_round.specs.Laws.{IsSmallFault}
 use Rattle.unicorn_round.specs.Legal.{AreMade, AreWithin}
 use Rattle.unicorn_round.specs.Marks.{Mark, plain, lacking, at, StackName, Record}
 use Rattle.unicorn_round.specs.Stacks.{is_due, is_untidied, tidy_answer, tidy_answers, row_of, rows_of}
-use Rattle.unicorn_round.proofs.Bounded.{Fits, FeedKeeps, Keeps, all-append, entry-keeps, entries-keep, end-keeps, round-keeps}
+use Rattle.unicorn_round.proofs.Bounded.{Fits, FeedKeeps, Keeps, entry-keeps, entries-keep, end-keeps, round-keeps}
+use Rattle.unicorn_round.proofs.Elements.{all-append, all-left, all-right, all-wider}
 use Rattle.unicorn_round.proofs.Ranges.{HasWhole, IsInRange}
 use Rattle.unicorn_round.proofs.Wholes.{reply-few, reply-words}
 
@@ -34,18 +35,6 @@ pub record IsFine (terms : Terms) (entry : Entry) : Type 0 where
   pub range : IsInRange terms entry
   pub line : line_of entry ≤ 2 ^ 63
   pub small : IsSmallFault entry
-
-pub all-left : {X : Type 0} (P : X → Type 0) (xs ys : List X) → AllByRecursion P (xs ++ ys) → AllByRecursion P xs
-all-left P [] ys all = tt
-all-left P (x ∷ xs) ys all = (all.0, all-left P xs ys all.1)
-
-pub all-right : {X : Type 0} (P : X → Type 0) (xs ys : List X) → AllByRecursion P (xs ++ ys) → AllByRecursion P ys
-all-right P [] ys all = all
-all-right P (x ∷ xs) ys all = all-right P xs ys all.1
-
-pub all-wider : {X : Type 0} (P Q : X → Type 0) → ((x : X) → P x → Q x) → (xs : List X) → AllByRecursion P xs → AllByRecursion Q xs
-all-wider P Q so [] all = tt
-all-wider P Q so (x ∷ xs) all = (so x all.0, all-wider P Q so xs all.1)
 
 whole-of : (terms : Terms) (entries : List Entry) → AllByRecursion (IsFine terms) entries → AllByRecursion HasWhole entries
 whole-of terms entries fine = all-wider (IsFine terms) HasWhole (λ entry one. one.whole) entries fine

@@ -4,6 +4,7 @@ mod CheckSteps
 mod Bounded
 >>>>>>> 0b778e0 (Equal answers are those of equal records, also by their text)
 mod Complete
+mod Elements
 mod Fitting
 mod Items
 mod JournalSteps
@@ -13,6 +14,7 @@ mod PlainLegal
 mod RanSteps
 mod Ranges
 mod Reading
+mod Refusals
 mod Results
 mod RoundSteps
 mod Served

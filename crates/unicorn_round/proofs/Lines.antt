@@ -3,6 +3,7 @@ use Rattle.std.proofs.Common.{◌≡◌, ◌<◌, ◌≤◌, ℕ, List, [], ◌�
 use Rattle.std.specs.List.{AllByRecursion}
 use Rattle.reply_text.specs.Heads.{Head, published, replied, compacted, counted, refused, fault, query_fault, lacking, tidied, untidied}
 use Rattle.script_rounds.specs.RoundReads.{Rise}
+use Rattle.unicorn_round.proofs.Elements.{all-append, all-wider}
 
 -- the line that a head is of, if it is of one
 abbrev pub line_in : Head → Option ℕ
@@ -62,12 +63,10 @@ above-lower low lower head below above = by (line_in head) above
     by (Some line) above = omega (arith, above, below)
 
 pub all_above-lower : (low lower : ℕ) (heads : List Head) → lower ≤ low → AreAbove low heads → AreAbove lower heads
-all_above-lower low lower [] below above = tt
-all_above-lower low lower (head ∷ heads) below above = (above-lower low lower head below above.0, all_above-lower low lower heads below above.1)
+all_above-lower low lower heads below above = all-wider (IsAbove low) (IsAbove lower) (λ head one. above-lower low lower head below one) heads above
 
 pub above-append : (low : ℕ) (heads others : List Head) → AreAbove low heads → AreAbove low others → AreAbove low (heads ++ others)
-above-append low [] others above later = later
-above-append low (head ∷ heads) others above later = (above.0, above-append low heads others above.1 later)
+above-append low heads others above later = all-append (IsAbove low) heads others above later
 
 -- the head of a line above a low one
 pub one-above : (low line : ℕ) (heads : List Head) → low < line → IsOneAt line heads → AreAbove low heads

@@ -23,6 +23,7 @@ use Rattle.script_rounds.specs.Roles.{Role, go, skipped, counted, counted_entry,
 use Rattle.script_rounds.specs.RoundReads.{Rise}
 use Rattle.script_rounds.specs.Rounds.{counted_after, in_front, rounds_from, entry_in}
 use Rattle.script_rounds.specs.Terms.{Terms}
+use Rattle.unicorn_round.proofs.Lines.{rise-order}
 use Rattle.unicorn_round.proofs.Wholes.{IsWhole}
 
 -- no word of a change holds an LF
@@ -178,8 +179,4 @@ module _ (terms : Terms) where
 -- numbers that rise are not above the high one
 pub rise-below : (low high : ℕ) (entries : List Entry) → Rise low high (map line_of entries) → AllByRecursion (λ entry. line_of entry ≤ high) entries
 rise-below low high [] rise = tt
-rise-below low high (entry ∷ entries) rise = (order (line_of entry) entries rise.1, rise-below (line_of entry) high entries rise.1)
-  where
-    order : (n : ℕ) (others : List Entry) → Rise n high (map line_of others) → n ≤ high
-    order n [] below = below
-    order n (other ∷ others) below = omega (arith, below.0, order (line_of other) others below.1)
+rise-below low high (entry ∷ entries) rise = (rise-order (line_of entry) high (map line_of entries) rise.1, rise-below (line_of entry) high entries rise.1)

@@ -19,14 +19,11 @@ use Rattle.unicorn_round.specs.Legal.{Legal}
 use Rattle.unicorn_round.specs.Marks.{Record}
 use Rattle.unicorn_round.specs.Records.{IsRecord}
 use Rattle.unicorn_round.proofs.Bounded.{opening-keeps}
-use Rattle.unicorn_round.proofs.Fitting.{IsFine, IsPrinted, IsSmall, Any, HasSmall, all-wider, answers-pass, any-marks, printed-passes, small-marks, small-passes}
+use Rattle.unicorn_round.proofs.Elements.{all-both, all-wider}
+use Rattle.unicorn_round.proofs.Fitting.{IsFine, IsPrinted, IsSmall, Any, HasSmall, answers-pass, any-marks, printed-passes, small-marks, small-passes}
 use Rattle.unicorn_round.proofs.Ranges.{HasWhole, IsInRange, all-range, all-whole, rise-below}
 use Rattle.unicorn_round.proofs.Telling.{heads_tell}
 use Rattle.unicorn_round.proofs.Wholes.{unbroken-append}
-
-all-both : {X : Type 0} (P Q : X → Type 0) (xs : List X) → AllByRecursion P xs → AllByRecursion Q xs → AllByRecursion (λ x. P x × Q x) xs
-all-both P Q [] a b = tt
-all-both P Q (x ∷ xs) a b = ((a.0, b.0), all-both P Q xs a.1 b.1)
 
 words-unbroken : (all : List Answer) → AllByRecursion (λ answer. AreUnbroken (words_of answer)) all → AreUnbroken (flat_map words_of all)
 words-unbroken [] none = refl

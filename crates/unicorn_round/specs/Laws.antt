@@ -25,7 +25,8 @@ FaultsAreSmall rounds = AllByRecursion IsSmallFault (all_entries rounds)
 
 -- Answers tell their record: two records of rounds that have the same answers are the same, where no two
 -- entries have the same line number. So are two records of a script's rounds whose answers are of the same
--- text, where one of them is a legal one, and lines and limits are small.
+-- text, where one of them is a legal one, limits are within the standard ones, and the numbers of lines and
+-- those of queries at fault are small.
 pub record AnswersTell : Type 0 where
   pub values :
       (terms : Terms) → (rounds : List (List Entry)) → (low : ℕ) → (high : ℕ) → Rise low high (map line_of (all_entries rounds))
