@@ -1,8 +1,5 @@
-<<<<<<< HEAD
-mod CheckSteps
-=======
 mod Bounded
->>>>>>> 0b778e0 (Equal answers are those of equal records, also by their text)
+mod CheckSteps
 mod Complete
 mod Elements
 mod Fitting
@@ -23,9 +20,6 @@ mod Steps
 mod Telling
 mod TextTelling
 mod Texts
-<<<<<<< HEAD
-mod Words
-=======
 mod Wholes
->>>>>>> 0b778e0 (Equal answers are those of equal records, also by their text)
+mod Words
 mod WriteSteps

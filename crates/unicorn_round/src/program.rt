@@ -42,7 +42,7 @@ where
     // Words that are taken: what is written is what their mode says.
     ensures ran { is_taken (map string_bytes words.now) ≡ true → (settings : Settings) → AreAsked (map string_bytes words.now) settings
         → Ran standard_limits (claim_of settings.mode) (closing_of settings.mode)
-            (S.left source.old) (S.left source.new) (K.taken sink.old) (K.taken sink.new) result }
+        (S.left source.old) (S.left source.new) (K.taken sink.old) (K.taken sink.new) result }
 
     // Other words: the usage line, and nothing is read.
     ensures usage { result ≡ Status.Usage → is_taken (map string_bytes words.now) ≡ false }
