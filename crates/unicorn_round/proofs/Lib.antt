@@ -22,4 +22,5 @@ mod TextTelling
 mod Texts
 mod Wholes
 mod Words
+mod Worked
 mod WriteSteps

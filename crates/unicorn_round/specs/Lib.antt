@@ -3,6 +3,7 @@ pub mod CheckLaws
 pub mod CheckState
 pub mod Checking
 pub mod Completeness
+pub mod Example
 pub mod Feeds
 pub mod Headers
 pub mod Laws

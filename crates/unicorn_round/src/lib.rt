@@ -4,6 +4,7 @@
 mod answering;
 mod checker;
 mod chooser;
+pub mod examples;
 mod gate;
 mod header;
 pub mod laws;
