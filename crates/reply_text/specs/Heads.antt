@@ -8,9 +8,9 @@ use Rattle.reply_text.specs.declared.answer.Answer.{Answer}
 use Rattle.reply_text.specs.declared.answer.Answer.TheVariants.{Published, Reply, Compacted, Stats, Refused, Fault, QueryFault, Memory, Tidied, Untidied}
 use Rattle.reply_text.specs.FirstWords.{first_words}
 
--- what the first line of an answer says: of a publish, a reply, a compaction or the stacks, the line's
--- number with the number of publishes or of layers, and how many lines follow; of a refusal or a fault its
--- code and column; of want of memory the line alone; of a stack where it stands
+-- what the first line of an answer says: of a publish, a reply, a compaction or the stacks, the line, a
+-- number of publishes, and how many lines follow; of a refusal or a fault the line, its code and column; of
+-- want of memory the line alone; of a stack that was compacted, or found no memory for it, where it stands
 pub data Head : Type 0 where
   published : (line number : ℕ) → Head
   replied : (line number count : ℕ) → Head

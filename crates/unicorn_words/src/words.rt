@@ -14,11 +14,11 @@ use thiserror::Error;
 /// What the program is to do.
 #[derive(Clone, Copy, Debug, PartialEq, Eq)]
 pub enum Mode {
-    /// Answers a script by rounds, with its workers.
+    /// Answers a script, round by round.
     Serve,
-    /// Answers a script line by line, with the slow evaluator.
+    /// Answers a script line by line.
     Plain,
-    /// Writes only what is wrong with a script.
+    /// Says what is wrong with the lines of a script.
     Check,
 }
 
