@@ -15,6 +15,8 @@ mod script;
 mod serial;
 mod stacks;
 mod status;
+#[cfg(test)]
+mod tests;
 mod write;
 
 pub use chooser::{Chooser, FirstChooser, TurnChooser};
