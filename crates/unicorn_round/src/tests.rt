@@ -25,9 +25,9 @@ const SECOND: &[u8] = b"unicorn 2|vertical user 2 2|";
 // All users in one shard.
 const ONE_SHARD: &[u8] = b"unicorn 1|vertical user 1 2|";
 
-// The lines 3 to 32: photos in one shard; friends, where users live, the photos that they are tagged in,
-// the users whom a photo shows, and those whom a user blocks. Eight entities and twelve edges are
-// published.
+// The lines 3 to 32: photos in one shard; friends, where users live, the photos that they are
+// tagged in, the users whom a photo shows, and those whom a user blocks. Eight entities and twelve
+// edges are published.
 const GRAPH: &[u8] = b"\
     vertical photo 1 1|\
     type friend user user both index|type lives word user target index|\
@@ -45,7 +45,14 @@ const GRAPH: &[u8] = b"\
 
 const PUBLISHED: &[u8] = b"published 31 1|";
 
-// How a script is answered: as a service that reads the first replica or each in turn, or line by line.
+// A question on line 33, with its answer.
+const QUESTION: &[u8] = b"ask 9 1 10 friend:1|";
+
+const REPLY: &[u8] =
+    b"reply 33 at 1 hits 3|hit 2 via friend:1>2|hit 3 via friend:1>3|hit 5 via friend:1>5|";
+
+// How a script is answered: as a service that reads the first replica or each in turn, or line by
+// line.
 #[derive(Clone, Copy, Debug)]
 enum Mode {
     First,
@@ -126,8 +133,8 @@ fn is_answered<R: Abort + Threads + Wait + Sync>(
     Ok(())
 }
 
-// The rows of a table have a semicolon between any two. Each is lines and, after a sign of equality, the
-// text that answers them. They follow the graph and its answer.
+// The rows of a table have a semicolon between any two. Each is lines and, after a sign of
+// equality, the text that answers them. They follow the graph and its answer.
 fn are_answered<R: Abort + Threads + Wait + Sync>(
     rt: &R,
     alloc: Global,

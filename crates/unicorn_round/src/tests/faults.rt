@@ -1,12 +1,13 @@
 //! Reads and writes that fail, each in its turn.
 ghost use Rattle.std.specs.Prelude.{◌<◌};
 
-use super::{FIRST, GRAPH, MODES, PUBLISHED, add, answer, roomy, text, whole};
+use super::{FIRST, GRAPH, MODES, PUBLISHED, QUESTION, REPLY, add, answer, roomy, text, whole};
 use std::alloc::Global;
 use std::test::Fail;
 use uni_base::{Limits, MemorySink, MemorySource, Rows, Text, cut_at};
 
-// The rounds of a script, the first one with the header, each with its text. The last one has no `go`.
+// The rounds of a script, the first one with the header, each with its text. The last one has no
+// `go`.
 const ROUNDS: &[u8] = b"\
     unicorn 1|vertical user 1 1|type friend user user both index|begin|\
     entity user 1 2|edge friend 1 1 public|publish|go|=\
@@ -15,11 +16,6 @@ const ROUNDS: &[u8] = b"\
     reply 9 at 1 hits 1|hit 1 via friend:1>1|;\
     cut friend 1 1|publish|=\
     published 12 2|";
-
-const QUESTION: &[u8] = b"ask 9 1 10 friend:1|";
-
-const REPLY: &[u8] =
-    b"reply 33 at 1 hits 3|hit 2 via friend:1>2|hit 3 via friend:1>3|hit 5 via friend:1>5|";
 
 // The script of the rounds, and their text.
 fn rounds(alloc: Global) -> Result<(Text, Text), Fail> {
@@ -198,8 +194,8 @@ fn a_write_that_fails_is_the_last(rt: HostRuntime) -> Result<(), Fail> {
     Ok(())
 }
 
-// Each of two rounds is offered in one piece, so there is no third write. A round without answers is not
-// offered.
+// Each of two rounds is offered in one piece, so there is no third write. A round without answers
+// is not offered.
 #[test]
 fn a_round_is_one_write(rt: HostRuntime) -> Result<(), Fail> {
     for mode in MODES {
@@ -221,7 +217,8 @@ fn a_round_is_one_write(rt: HostRuntime) -> Result<(), Fail> {
             rt.alloc(),
             &[
                 PUBLISHED,
-                b"reply 36 at 1 hits 3|hit 2 via friend:1>2|hit 3 via friend:1>3|hit 5 via friend:1>5|",
+                b"reply 36 at 1 hits 3|hit 2 via friend:1>2|\
+                hit 3 via friend:1>3|hit 5 via friend:1>5|",
             ],
         )?;
         assert_eq!(rt; sink.bytes(), want.as_slice());

@@ -25,7 +25,8 @@ const QUERIES: &[u8] = b"\
     ask 9 1 10 (and (term friend:1 :optional-hits 1) lives:rome)|=error 33 36 21|;\
     ask 9 1 10 (apply tagged: friend:1 :limit 0)|=error 33 36 32|;\
     ask 9 1 10 (or (or (or (or (or (or (or (or (or (or (or (or (or (or (or (or \
-    (or (or (or (or (or (or (or (or (or (or (or (or (or (or (or (or (or friend:1)))))))))))))))))))))))))))))))))|=error 33 37 129|";
+    (or (or (or (or (or (or (or (or (or (or (or (or (or (or (or (or (or friend:1\
+    )))))))))))))))))))))))))))))))))|=error 33 37 129|";
 
 // Queries that have no vertical.
 const TYPES: &[u8] = b"\
@@ -35,7 +36,8 @@ const TYPES: &[u8] = b"\
     ask 9 1 10 (extract friend: friend:1)|=error 33 44 10|;\
     ask 9 1 10 (and friend:1 tagged:1)|=error 33 45 15|;\
     ask 9 1 10 (apply friend: tagged:2)|=error 33 46 8|;\
-    ask 9 1 10 (apply friend: (apply friend: (apply friend: (apply friend: (apply friend: friend:1)))))|=error 33 47 61|";
+    ask 9 1 10 (apply friend: (apply friend: (apply friend: (apply friend: (apply friend: \
+    friend:1)))))|=error 33 47 61|";
 
 // Changes that are refused, beside two that change nothing. What was published before stands.
 const CHANGES: &[u8] = b"\

@@ -1,13 +1,7 @@
 //! Limits that are smaller than the standard ones, and lines that are longer than any.
-use super::{FIRST, GRAPH, PUBLISHED, add, are_answered, is_answered, text};
+use super::{FIRST, GRAPH, PUBLISHED, QUESTION, REPLY, add, are_answered, is_answered, text};
 use std::test::Fail;
 use uni_base::Limits;
-
-// The question of the second round, with its answer.
-const QUESTION: &[u8] = b"ask 9 1 10 friend:1|";
-
-const REPLY: &[u8] =
-    b"reply 33 at 1 hits 3|hit 2 via friend:1>2|hit 3 via friend:1>3|hit 5 via friend:1>5|";
 
 // One question too many, and one after it.
 const QUESTIONS: &[u8] = b"\
@@ -80,8 +74,10 @@ fn lines_and_rounds_have_limits(rt: HostRuntime) -> Result<(), Fail> {
         line: 40,
         ..Limits::standard()
     };
-    let rows =
-        b"ask 9 1 10 (or friend:1 lives:rome tagged|=error 33 64|;ask 9 1 10 (or friend:1 lives:rome tagge|=error 33 31 25|";
+    // 41 bytes, and 40
+    let rows = b"\
+        ask 9 1 10 (or friend:1 lives:rome tagged|=error 33 64|;\
+        ask 9 1 10 (or friend:1 lives:rome tagge|=error 33 31 25|";
     are_answered(&rt, rt.alloc(), line, FIRST, rows)?;
     let nodes = Limits {
         nodes: 3,

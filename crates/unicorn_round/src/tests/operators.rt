@@ -14,7 +14,8 @@ const SETS: &[u8] = b"\
     reply 33 at 1 hits 5|hit 2 via friend:1>2|hit 3 via friend:1>3|hit 5 via friend:1>5|\
     hit 6 via lives:rome>6|hit 4 via lives:rome>4|";
 
-// The count is spent on 6, and 4 finds none left; an outer operator that discards 6 does not give it back.
+// The count is spent on 6, and 4 finds none left; an outer operator that discards 6 does not give
+// it back.
 // In shard 1, 7 follows 3 with two accepted and no match. Each shard has a count of its own.
 const WALKS: &[u8] = b"\
     ask 9 1 10 (weak-and (term friend:1 :optional-hits 1) lives:rome)|=\

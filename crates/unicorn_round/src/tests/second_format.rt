@@ -1,4 +1,5 @@
-//! What the second format adds: weights in a weak-and, a larger limit, edges that end, and prefix terms.
+//! What the second format adds: weights in a weak-and, a larger limit, edges that end, and prefix
+//! terms.
 use super::{FIRST, SECOND, are_answered};
 use std::test::Fail;
 use uni_base::Limits;
@@ -34,7 +35,9 @@ const ENDS: &[u8] = b"\
     edge friend 1 2 public until 2|publish|go|ask 9 1 10 friend:1|go|\
     publish|go|ask 9 1 10 friend:1|=\
     published 34 2|reply 36 at 2 hits 2|hit 3 via friend:1>3|hit 5 via friend:1>5|\
-    published 38 3|reply 40 at 3 hits 2|hit 3 via friend:1>3|hit 5 via friend:1>5|";
+    published 38 3|reply 40 at 3 hits 2|hit 3 via friend:1>3|hit 5 via friend:1>5|;\
+    edge friend 1 4 public until 0|edge friend 1 4 public until 1048577|=\
+    refused 33 11|refused 34 11|";
 
 // All towns that begin so. Where the edge of the first town is hidden, that of the second is shown.
 const PREFIXES: &[u8] = b"\

@@ -18,6 +18,9 @@ const STACKS: &[u8] = b"\
     published 33 2|compacted 34 2|published 35 3|\
     stats 36 at 3 stacks 5|stack user 0 0 layers 4|stack user 0 1 layers 2|\
     stack user 1 0 layers 4|stack user 1 1 layers 4|stack photo 0 0 layers 4|;\
+    publish|stats|go|=\
+    published 33 2|stats 34 at 2 stacks 5|stack user 0 0 layers 3|stack user 0 1 layers 3|\
+    stack user 1 0 layers 3|stack user 1 1 layers 3|stack photo 0 0 layers 3|;\
     publish|publish|publish|publish|publish|publish|publish|stats|go|=\
     published 33 2|published 34 3|published 35 4|published 36 5|published 37 6|published 38 7|\
     published 39 8|\
@@ -25,8 +28,8 @@ const STACKS: &[u8] = b"\
     stack user 1 0 layers 1|stack user 1 1 layers 9|stack photo 0 0 layers 1|\
     tidied user 0 0 8|tidied user 1 0 8|tidied photo 0 0 8|";
 
-// Twenty questions of four sessions beside three publishes that change a rank, and then questions alone.
-// So far a service answers line by line too.
+// Twenty questions of four sessions beside three publishes that change a rank, and then questions
+// alone. So far a service answers line by line too.
 const BESIDE: &[u8] = b"\
     ask 9 1 10 friend:1|ask 9 2 10 friend:1|ask 9 3 10 friend:1|ask 9 4 10 friend:1|\
     ask 9 1 10 friend:1|entity user 5 95|publish|ask 9 2 10 friend:1|ask 9 3 10 friend:1|\

@@ -3,8 +3,8 @@ use super::{FIRST, are_answered};
 use std::test::Fail;
 use uni_base::Limits;
 
-// Where a joining edge is hidden, the next one is shown. What is hidden counts at the limit, and an owner
-// sees it. Two edges that a viewer may see do not show a hit, unless they are of one lineage.
+// Where a joining edge is hidden, the next one is shown. What is hidden counts at the limit, and an
+// owner sees it. Two edges that a viewer may see do not show a hit, unless they are of one lineage.
 const HIDDEN: &[u8] = b"\
     edge tagged 3 102 only|publish|go|ask 9 1 10 (apply tagged: friend:1)|=\
     published 34 2|reply 36 at 2 hits 2|hit 102 via tagged:5>102 friend:1>5|\
