@@ -1,7 +1,7 @@
 //! Scripts with the texts that answer them, as they were worked out by hand.
 ghost use Rattle.uni_base.specs.StandardLimits.{IsWithinStandard};
 
-use crate::{FirstChooser, OpenGate, Status, TurnChooser, run_plain, serve_rounds};
+use crate::{FirstChooser, OpenGate, TurnChooser, run_plain, serve_rounds};
 use std::alloc::Global;
 use std::process::Abort;
 use std::sync::Wait;
@@ -62,25 +62,26 @@ enum Mode {
 
 const MODES: [Mode; 3] = [Mode::First, Mode::InTurn, Mode::Plain];
 
-fn answer<R: Threads + Wait + Sync>(
+// Answers a script, and compares the text and the number of the status.
+fn ends<R: Abort + Threads + Wait + Sync>(
     rt: &R,
     alloc: Global,
     mode: Mode,
     limits: Limits,
     source: &mut MemorySource,
     sink: &mut MemorySink,
-) -> Status
+    want: (&[u8], u8),
+)
     requires { IsWithinStandard limits }
 {
-    match mode {
-        Mode::First => {
-            serve_rounds(rt, alloc, limits, 1, source, sink, &FirstChooser, &OpenGate)
-        }
-        Mode::InTurn => {
-            serve_rounds(rt, alloc, limits, 4, source, sink, &TurnChooser, &OpenGate)
-        }
+    let ended = match mode {
+        Mode::First => serve_rounds(rt, alloc, limits, 1, source, sink, &FirstChooser, &OpenGate),
+        Mode::InTurn => serve_rounds(rt, alloc, limits, 4, source, sink, &TurnChooser, &OpenGate),
         Mode::Plain => run_plain(alloc, limits, source, sink),
-    }
+    };
+    let (text, status) = want;
+    assert_eq!(rt; sink.bytes(), text, "{mode:?}");
+    assert_eq!(rt; ended.number(), status, "{mode:?}");
 }
 
 // Adds a part to a text. A bar stands for an LF.
@@ -111,7 +112,23 @@ fn roomy(alloc: Global) -> Result<MemorySink, Fail> {
     Ok(MemorySink::new(alloc, 65_536, 65_536, Vec::new(alloc))?)
 }
 
-// Answers the parts of a script in each mode, and compares the text and the number of the status.
+// The rows of a table, between which a semicolon stands.
+fn rows(alloc: Global, table: &[u8]) -> Result<Vec<Text>, Fail> {
+    let mut rows = Vec::new(alloc);
+    let mut row = Rows::new(alloc);
+    for byte in table {
+        if *byte == b';' {
+            rows.push(row)?;
+            row = Rows::new(alloc);
+        } else {
+            row.push(*byte)?;
+        }
+    }
+    rows.push(row)?;
+    Ok(rows)
+}
+
+// Answers the parts of a script in each mode.
 fn is_answered<R: Abort + Threads + Wait + Sync>(
     rt: &R,
     alloc: Global,
@@ -126,26 +143,32 @@ fn is_answered<R: Abort + Threads + Wait + Sync>(
     for mode in MODES {
         let mut source = whole(alloc, text(alloc, script)?)?;
         let mut sink = roomy(alloc)?;
-        let ended = answer(rt, alloc, mode, limits, &mut source, &mut sink);
-        assert_eq!(rt; sink.bytes(), want.as_slice(), "{mode:?}");
-        assert_eq!(rt; ended.number(), status, "{mode:?}");
+        ends(
+            rt,
+            alloc,
+            mode,
+            limits,
+            &mut source,
+            &mut sink,
+            (want.as_slice(), status),
+        );
     }
     Ok(())
 }
 
-// The rows of a table have a semicolon between any two. Each is lines and, after a sign of
-// equality, the text that answers them. They follow the graph and its answer.
+// Answers each row of a table: lines and, after a sign of equality, the text that answers them.
+// They follow the graph and its answer.
 fn are_answered<R: Abort + Threads + Wait + Sync>(
     rt: &R,
     alloc: Global,
     limits: Limits,
     front: &[u8],
-    rows: &[u8],
+    table: &[u8],
 ) -> Result<(), Fail>
     requires { IsWithinStandard limits }
 {
-    for row in rows.split(|byte| *byte == b';') {
-        let (lines, want) = cut_at(row, b'=').ok_or("no row")?;
+    for row in rows(alloc, table)?.as_slice() {
+        let (lines, want) = cut_at(row.as_slice(), b'=').ok_or("no row")?;
         is_answered(
             rt,
             alloc,

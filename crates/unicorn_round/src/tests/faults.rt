@@ -1,9 +1,14 @@
 //! Reads and writes that fail, each in its turn.
 ghost use Rattle.std.specs.Prelude.{◌<◌};
 
-use super::{FIRST, GRAPH, MODES, PUBLISHED, QUESTION, REPLY, add, answer, roomy, text, whole};
+use super::{
+    FIRST, GRAPH, MODES, Mode, PUBLISHED, QUESTION, REPLY, add, ends, roomy, rows, text, whole,
+};
 use std::alloc::Global;
+use std::process::Abort;
+use std::sync::Wait;
 use std::test::Fail;
+use std::thread::Threads;
 use uni_base::{Limits, MemorySink, MemorySource, Rows, Text, cut_at};
 
 // The rounds of a script, the first one with the header, each with its text. The last one has no
@@ -21,22 +26,23 @@ const ROUNDS: &[u8] = b"\
 fn rounds(alloc: Global) -> Result<(Text, Text), Fail> {
     let mut script = Rows::new(alloc);
     let mut answers = Rows::new(alloc);
-    for round in ROUNDS.split(|byte| *byte == b';') {
-        let (lines, text) = cut_at(round, b'=').ok_or("no round")?;
+    for round in rows(alloc, ROUNDS)?.as_slice() {
+        let (lines, text) = cut_at(round.as_slice(), b'=').ok_or("no round")?;
         add(&mut script, lines)?;
         add(&mut answers, text)?;
     }
     Ok((script, answers))
 }
 
-// The text of the rounds whose `go` is among so many bytes of the script.
-fn closed(alloc: Global, bytes: usize) -> Result<Text, Fail> {
+// The text of the rounds whose `go` is among so many bytes of the script, and where its end was
+// read also that of the last one.
+fn closed(alloc: Global, bytes: usize, ended: bool) -> Result<Text, Fail> {
     let mut script = Rows::new(alloc);
     let mut answers = Rows::new(alloc);
-    for round in ROUNDS.split(|byte| *byte == b';') {
-        let (lines, text) = cut_at(round, b'=').ok_or("no round")?;
+    for round in rows(alloc, ROUNDS)?.as_slice() {
+        let (lines, text) = cut_at(round.as_slice(), b'=').ok_or("no round")?;
         add(&mut script, lines)?;
-        if script.len() <= bytes && lines.ends_with(b"go|") {
+        if script.len() <= bytes && (ended || lines.ends_with(b"go|")) {
             add(&mut answers, text)?;
         }
     }
@@ -49,8 +55,8 @@ fn taken(alloc: Global, most: usize, writes: usize) -> Result<Text, Fail>
 {
     let mut taken = Rows::new(alloc);
     let mut left = writes;
-    for round in ROUNDS.split(|byte| *byte == b';') {
-        let (_, text) = cut_at(round, b'=').ok_or("no round")?;
+    for round in rows(alloc, ROUNDS)?.as_slice() {
+        let (_, text) = cut_at(round.as_slice(), b'=').ok_or("no round")?;
         for piece in text.chunks(most) {
             if left == 0 {
                 return Ok(taken);
@@ -75,155 +81,163 @@ fn pieces(alloc: Global, text: &[u8], size: usize) -> Result<Vec<Text>, Fail>
     Ok(pieces)
 }
 
+// The graph and a question, each in a piece. A read of a number fails.
+fn two_pieces(alloc: Global, fails: u64) -> Result<MemorySource, Fail> {
+    let mut pieces = Vec::new(alloc);
+    pieces.push(text(alloc, &[FIRST, GRAPH])?)?;
+    pieces.push(text(alloc, &[QUESTION])?)?;
+    Ok(MemorySource::new(pieces, vec![in alloc; fails]?))
+}
+
+// A sink that takes so many bytes in a write. A write of a number fails.
+fn failing(alloc: Global, most: usize, fails: u64) -> Result<MemorySink, Fail>
+    requires { 0 < most }
+{
+    Ok(MemorySink::new(alloc, 65_536, most, vec![in alloc; fails]?)?)
+}
+
 // A read of each number fails; the last one finds the end.
-#[test]
-fn each_read_fails_in_turn(rt: HostRuntime) -> Result<(), Fail> {
-    let (script, answers) = rounds(rt.alloc())?;
-    for size in [1, 7, 100] {
-        let reads = script.len().div_ceil(size).saturating_add(1);
-        for before in 0..=reads {
-            let parts = pieces(rt.alloc(), script.as_slice(), size)?;
-            let fails = vec![in rt.alloc(); (before as u64).saturating_add(1)]?;
-            let mut source = MemorySource::new(parts, fails);
-            let mut sink = roomy(rt.alloc())?;
-            let mode = MODES[before % 3];
-            let ended = answer(
-                &rt,
-                rt.alloc(),
-                mode,
-                Limits::standard(),
-                &mut source,
-                &mut sink,
-            );
-            if before == reads {
-                assert_eq!(rt; sink.bytes(), answers.as_slice());
-                assert_eq!(rt; ended.number(), 0);
-            } else {
-                let want = closed(rt.alloc(), before.saturating_mul(size))?;
-                assert_eq!(rt; sink.bytes(), want.as_slice(), "{size} {before}");
-                assert_eq!(rt; ended.number(), 4);
-                assert_eq!(rt; source.faults(), 1);
-            }
-        }
+fn reads_fail<R: Abort + Threads + Wait + Sync>(
+    rt: &R,
+    alloc: Global,
+    mode: Mode,
+    size: usize,
+) -> Result<(), Fail>
+    requires { 0 < size }
+{
+    let (script, _) = rounds(alloc)?;
+    let reads = script.len().div_ceil(size).saturating_add(1);
+    for before in 0..=reads {
+        let parts = pieces(alloc, script.as_slice(), size)?;
+        let fails = vec![in alloc; (before as u64).saturating_add(1)]?;
+        let mut source = MemorySource::new(parts, fails);
+        let mut sink = roomy(alloc)?;
+        let ended = before == reads;
+        let text = closed(alloc, before.saturating_mul(size), ended)?;
+        let want = (text.as_slice(), if ended { 0 } else { 4 });
+        ends(
+            rt,
+            alloc,
+            mode,
+            Limits::standard(),
+            &mut source,
+            &mut sink,
+            want,
+        );
     }
     Ok(())
 }
 
 // A write of each number fails. With room for all of a round there are three writes.
+fn writes_fail<R: Abort + Threads + Wait + Sync>(
+    rt: &R,
+    alloc: Global,
+    mode: Mode,
+    most: usize,
+) -> Result<(), Fail>
+    requires { 0 < most }
+{
+    let (script, answers) = rounds(alloc)?;
+    for before in 0..72 {
+        let mut source = whole(alloc, text(alloc, &[script.as_slice()])?)?;
+        let mut sink = failing(alloc, most, before as u64 + 1)?;
+        let text = taken(alloc, most, before)?;
+        let faults = if text.len() == answers.len() { 0 } else { 1 };
+        let want = (text.as_slice(), if faults == 0 { 0 } else { 5 });
+        ends(
+            rt,
+            alloc,
+            mode,
+            Limits::standard(),
+            &mut source,
+            &mut sink,
+            want,
+        );
+        assert_eq!(rt; sink.faults(), faults);
+    }
+    Ok(())
+}
+
 #[test]
-fn each_write_fails_in_turn(rt: HostRuntime) -> Result<(), Fail> {
-    let (script, answers) = rounds(rt.alloc())?;
-    for most in [1, 7, 100, 65_536] {
-        for before in 0..72 {
-            let mut source = whole(rt.alloc(), text(rt.alloc(), &[script.as_slice()])?)?;
-            let fails = vec![in rt.alloc(); before as u64 + 1]?;
-            let mut sink = MemorySink::new(rt.alloc(), 65_536, most, fails)?;
-            let mode = MODES[before % 3];
-            let ended = answer(
-                &rt,
-                rt.alloc(),
-                mode,
-                Limits::standard(),
-                &mut source,
-                &mut sink,
-            );
-            let want = taken(rt.alloc(), most, before)?;
-            assert_eq!(rt; sink.bytes(), want.as_slice(), "{most} {before}");
-            if want.len() == answers.len() {
-                assert_eq!(rt; ended.number(), 0);
-            } else {
-                assert_eq!(rt; ended.number(), 5, "{most} {before}");
-                assert_eq!(rt; sink.faults(), 1);
-            }
+fn each_read_and_write_fails_in_turn(rt: HostRuntime) -> Result<(), Fail> {
+    for mode in MODES {
+        for bytes in [1, 7, 100, 65_536] {
+            reads_fail(&rt, rt.alloc(), mode, bytes)?;
+            writes_fail(&rt, rt.alloc(), mode, bytes)?;
         }
     }
     Ok(())
 }
 
-// The script in two pieces. The third read, which finds the end, fails or not.
+// The third read, which finds the end, fails or not.
 #[test]
 fn the_end_cannot_be_read(rt: HostRuntime) -> Result<(), Fail> {
+    let first = text(rt.alloc(), &[PUBLISHED])?;
+    let both = text(rt.alloc(), &[PUBLISHED, REPLY])?;
     for mode in MODES {
-        for fails in [3, 4] {
-            let mut pieces = Vec::new(rt.alloc());
-            pieces.push(text(rt.alloc(), &[FIRST, GRAPH])?)?;
-            pieces.push(text(rt.alloc(), &[QUESTION])?)?;
-            let mut source = MemorySource::new(pieces, vec![in rt.alloc(); fails]?);
-            let mut sink = roomy(rt.alloc())?;
-            let ended = answer(
-                &rt,
-                rt.alloc(),
-                mode,
-                Limits::standard(),
-                &mut source,
-                &mut sink,
-            );
-            let want = if fails == 3 {
-                text(rt.alloc(), &[PUBLISHED])?
-            } else {
-                text(rt.alloc(), &[PUBLISHED, REPLY])?
-            };
-            assert_eq!(rt; sink.bytes(), want.as_slice());
-            assert_eq!(rt; ended.number(), if fails == 3 { 4 } else { 0 });
-        }
-    }
-    Ok(())
-}
-
-// The second write fails, and nothing is read after it: the second read would fail too.
-#[test]
-fn a_write_that_fails_is_the_last(rt: HostRuntime) -> Result<(), Fail> {
-    for mode in MODES {
-        let mut pieces = Vec::new(rt.alloc());
-        pieces.push(text(rt.alloc(), &[FIRST, GRAPH])?)?;
-        pieces.push(text(rt.alloc(), &[QUESTION])?)?;
-        let mut source = MemorySource::new(pieces, vec![in rt.alloc(); 2]?);
-        let mut sink = MemorySink::new(rt.alloc(), 65_536, 10, vec![in rt.alloc(); 2]?)?;
-        let ended = answer(
+        let mut source = two_pieces(rt.alloc(), 3)?;
+        let mut sink = roomy(rt.alloc())?;
+        let want = (first.as_slice(), 4);
+        ends(
             &rt,
             rt.alloc(),
             mode,
             Limits::standard(),
             &mut source,
             &mut sink,
+            want,
         );
-        assert_eq!(rt; sink.bytes(), b"published ".as_slice());
-        assert_eq!(rt; ended.number(), 5);
+        let mut source = two_pieces(rt.alloc(), 4)?;
+        let mut sink = roomy(rt.alloc())?;
+        let want = (both.as_slice(), 0);
+        ends(
+            &rt,
+            rt.alloc(),
+            mode,
+            Limits::standard(),
+            &mut source,
+            &mut sink,
+            want,
+        );
+    }
+    Ok(())
+}
+
+// The second write fails, and nothing is read after it: the second read would fail too. Where each
+// of two rounds with answers is taken in one piece, there is no third write that could fail; a
+// round without answers is not offered.
+#[test]
+fn writes_of_whole_rounds(rt: HostRuntime) -> Result<(), Fail> {
+    let more = [FIRST, GRAPH, b"go|# nothing|go|", QUESTION, b"go|gone 77|"];
+    let reply =
+        b"reply 36 at 1 hits 3|hit 2 via friend:1>2|hit 3 via friend:1>3|hit 5 via friend:1>5|";
+    let both = text(rt.alloc(), &[PUBLISHED, reply])?;
+    for mode in MODES {
+        let mut source = two_pieces(rt.alloc(), 2)?;
+        let mut sink = failing(rt.alloc(), 10, 2)?;
+        let want = (b"published ".as_slice(), 5);
+        ends(
+            &rt,
+            rt.alloc(),
+            mode,
+            Limits::standard(),
+            &mut source,
+            &mut sink,
+            want,
+        );
         assert_eq!(rt; source.faults(), 0);
-    }
-    Ok(())
-}
-
-// Each of two rounds is offered in one piece, so there is no third write. A round without answers
-// is not offered.
-#[test]
-fn a_round_is_one_write(rt: HostRuntime) -> Result<(), Fail> {
-    for mode in MODES {
-        let script = text(
-            rt.alloc(),
-            &[FIRST, GRAPH, b"go|# nothing|go|", QUESTION, b"go|gone 77|"],
-        )?;
-        let mut source = whole(rt.alloc(), script)?;
-        let mut sink = MemorySink::new(rt.alloc(), 65_536, 65_536, vec![in rt.alloc(); 3]?)?;
-        let ended = answer(
+        let mut source = whole(rt.alloc(), text(rt.alloc(), &more)?)?;
+        let mut sink = failing(rt.alloc(), 65_536, 3)?;
+        let want = (both.as_slice(), 0);
+        ends(
             &rt,
             rt.alloc(),
             mode,
             Limits::standard(),
             &mut source,
             &mut sink,
+            want,
         );
-        let want = text(
-            rt.alloc(),
-            &[
-                PUBLISHED,
-                b"reply 36 at 1 hits 3|hit 2 via friend:1>2|\
-                hit 3 via friend:1>3|hit 5 via friend:1>5|",
-            ],
-        )?;
-        assert_eq!(rt; sink.bytes(), want.as_slice());
-        assert_eq!(rt; ended.number(), 0);
-        assert_eq!(rt; sink.faults(), 0);
     }
     Ok(())
 }

@@ -1,5 +1,5 @@
 //! Lines of every form, and headers, that are refused.
-use super::{FIRST, are_answered, is_answered};
+use super::{FIRST, are_answered, is_answered, rows};
 use std::test::Fail;
 use uni_base::{Limits, cut_at};
 
@@ -69,8 +69,8 @@ fn lines_are_refused(rt: HostRuntime) -> Result<(), Fail> {
 
 #[test]
 fn headers_are_refused(rt: HostRuntime) -> Result<(), Fail> {
-    for row in HEADERS.split(|byte| *byte == b';') {
-        let (script, want) = cut_at(row, b'=').ok_or("no row")?;
+    for row in rows(rt.alloc(), HEADERS)?.as_slice() {
+        let (script, want) = cut_at(row.as_slice(), b'=').ok_or("no row")?;
         is_answered(&rt, rt.alloc(), Limits::standard(), &[script], &[want], 3)?;
     }
     Ok(())

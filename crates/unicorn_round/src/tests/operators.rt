@@ -51,13 +51,9 @@ const JOINS: &[u8] = b"\
     hit 4 via shows:102>4 tagged:3>102 friend:1>3|";
 
 #[test]
-fn sets_and_joins(rt: HostRuntime) -> Result<(), Fail> {
+fn each_operator(rt: HostRuntime) -> Result<(), Fail> {
     are_answered(&rt, rt.alloc(), Limits::standard(), FIRST, SETS)?;
-    are_answered(&rt, rt.alloc(), Limits::standard(), FIRST, JOINS)
-}
-
-#[test]
-fn counts_and_weights(rt: HostRuntime) -> Result<(), Fail> {
     are_answered(&rt, rt.alloc(), Limits::standard(), FIRST, WALKS)?;
-    are_answered(&rt, rt.alloc(), Limits::standard(), ONE_SHARD, ONE_COUNT)
+    are_answered(&rt, rt.alloc(), Limits::standard(), ONE_SHARD, ONE_COUNT)?;
+    are_answered(&rt, rt.alloc(), Limits::standard(), FIRST, JOINS)
 }

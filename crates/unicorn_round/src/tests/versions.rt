@@ -67,12 +67,8 @@ const BESIDE: &[u8] = b"\
     reply 63 at 4 hits 3|hit 2 via friend:1>2|hit 3 via friend:1>3|hit 5 via friend:1>5|";
 
 #[test]
-fn each_version_stands_as_it_was_published(rt: HostRuntime) -> Result<(), Fail> {
+fn versions_and_their_stacks(rt: HostRuntime) -> Result<(), Fail> {
     are_answered(&rt, rt.alloc(), Limits::standard(), FIRST, CHANGES)?;
-    are_answered(&rt, rt.alloc(), Limits::standard(), FIRST, BESIDE)
-}
-
-#[test]
-fn stacks_are_compacted_and_tidied(rt: HostRuntime) -> Result<(), Fail> {
+    are_answered(&rt, rt.alloc(), Limits::standard(), FIRST, BESIDE)?;
     are_answered(&rt, rt.alloc(), Limits::standard(), FIRST, STACKS)
 }
