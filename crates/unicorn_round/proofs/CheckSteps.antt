@@ -1,5 +1,5 @@
 -- Checking line by line.
-use Rattle.std.proofs.Common.{◌≡◌, ◌+◌, ◌<◌, ◌≤◌, ℕ, Bool, true, false, List, [], ◌∷◌, ◌++◌, length, map, filter, Option, None, Some, is_some, if◌then◌else◌, nat_lt, refl, ap, sym, ◌∙◌, subst, arith, append-nil, length-append}
+use Rattle.std.proofs.Common.{◌≡◌, ◌+◌, ◌<◌, ◌≤◌, ℕ, Bool, true, false, List, [], ◌∷◌, ◌++◌, length, map, filter, None, Some, is_some, if◌then◌else◌, nat_lt, refl, ap, sym, ◌∙◌, subst, arith, append-nil, length-append}
 use Rattle.std.proofs.lemmas.List.Elements.{filter-append}
 use Rattle.uni_schema.specs.Schema.{Declarations}
 use Rattle.uni_table.specs.declared.command.Command.{Command}
@@ -12,7 +12,7 @@ use Rattle.query_check.specs.Plan.{Plan}
 use Rattle.uni_meaning.specs.Replies.{reply_of}
 use Rattle.uni_meaning.specs.declared.reply.Hit.{Hit}
 use Rattle.reply_text.specs.declared.answer.Answer.{Answer}
-use Rattle.reply_text.specs.declared.answer.Answer.TheVariants.{Published, Reply, Compacted, Stats, Refused, Fault, QueryFault, Memory}
+use Rattle.reply_text.specs.declared.answer.Answer.TheVariants.{Published, Refused, Fault, QueryFault, Memory}
 use Rattle.reply_text.specs.declared.answer.StackRow.{StackRow}
 use Rattle.reply_text.specs.Lines.{text_of}
 use Rattle.reply_text.specs.Printed.{hit_line, stack_line, lines_of_answers, answers_text}
@@ -22,10 +22,10 @@ use Rattle.unicorn_round.specs.declared.stacks.StackCover.{StackCover}
 use Rattle.unicorn_round.specs.Answers.{Standing, opening_standing, after_entry, after_entries, after_round, after_rounds, at_end, answers, entry_answers, entries_answers, round_answers, replies}
 use Rattle.unicorn_round.specs.Checking.{is_checked, checked_lines, checked_text}
 use Rattle.unicorn_round.specs.CheckState.{CheckState, ChecksFor, EntryChecked, EntriesChecked, RoundsChecked, opening_check}
-use Rattle.unicorn_round.specs.Feeds.{Feed, made, changed, published, change_answers, publish_answers, refusal_answers, too_many_publishes}
-use Rattle.unicorn_round.specs.Marks.{Mark, plain, lacking, at, RoundRecord, Record}
-use Rattle.unicorn_round.specs.Plain.{Lacks, plain_mark, plain_marks, plain_round, plain_record}
-use Rattle.unicorn_round.specs.Records.{IsMarked, AreMarked, IsRoundRecord}
+use Rattle.unicorn_round.specs.Feeds.{made, changed, published, publish_answers, refusal_answers, too_many_publishes}
+use Rattle.unicorn_round.specs.Marks.{Mark, lacking, RoundRecord}
+use Rattle.unicorn_round.specs.Plain.{plain_mark, plain_marks, plain_round}
+use Rattle.unicorn_round.specs.Records.{IsMarked, IsRoundRecord}
 use Rattle.unicorn_round.specs.Stacks.{is_due, rows_of, tidy_answer, tidy_answers}
 use Rattle.unicorn_round.proofs.RoundSteps.{none_untidied}
 use Rattle.unicorn_round.proofs.ServingSteps.{lt_true, lt_false, after_lacking}

@@ -7,13 +7,17 @@ use Rattle.uni_schema.specs.Schema.{Declarations}
 use Rattle.uni_table.specs.declared.command.Command.{Command}
 use Rattle.uni_table.specs.Commands.{next, refuses}
 use Rattle.uni_table.specs.Contents.{Contents, empty}
-use Rattle.uni_table.specs.Journals.{after_commands, after_batch, after_batches, fold_of, first, accepts_commands}
+use Rattle.uni_table.specs.Journals.{after_commands, after_batch, after_batches, fold_of, first, accepts_commands, accepts_batches}
 use Rattle.unicorn_round.specs.Serving.{IsLater}
 
 pub after_commands-snoc : (schema : Declarations) (table : Contents) (commands : List Command) (command : Command)
     → after_commands schema table (commands ++ command ∷ []) ≡ next schema (after_commands schema table commands) command
 after_commands-snoc schema table [] command = refl
 after_commands-snoc schema table (c ∷ commands) command = after_commands-snoc schema (next schema table c) commands command
+
+both : (a b : Bool) → (a && b) ≡ true → (a ≡ true) × (b ≡ true)
+both true b is = (refl, is)
+both false b is = absurd cc
 
 pub accepts_commands-snoc : (schema : Declarations) (limits : Limits) (table : Contents) (commands : List Command) (command : Command)
     → accepts_commands schema limits table commands ≡ true → refuses schema limits (after_commands schema table commands) command ≡ None
@@ -23,10 +27,15 @@ accepts_commands-snoc schema limits table (c ∷ commands) command all one =
     let parts = both (not (is_some (refuses schema limits table c))) (accepts_commands schema limits (next schema table c) commands) all in
     ap (λ b. b && accepts_commands schema limits (next schema table c) (commands ++ command ∷ [])) parts.0
     ∙ accepts_commands-snoc schema limits (next schema table c) commands command parts.1 one
-  where
-    both : (a b : Bool) → (a && b) ≡ true → (a ≡ true) × (b ≡ true)
-    both true b is = (refl, is)
-    both false b is = absurd cc
+
+pub accepts_batches-snoc : (schema : Declarations) (limits : Limits) (table : Contents) (made : ℕ) (journal : List (List Command)) (batch : List Command)
+    → accepts_batches schema limits table made journal ≡ true → accepts_commands schema limits (after_batches schema table made journal) batch ≡ true
+    → accepts_batches schema limits table made (journal ++ batch ∷ []) ≡ true
+accepts_batches-snoc schema limits table made [] batch all one = ap (λ b. b && true) one
+accepts_batches-snoc schema limits table made (b ∷ journal) batch all one =
+    let parts = both (accepts_commands schema limits table b) (accepts_batches schema limits (after_batch schema table (made + 1) b) (made + 1) journal) all in
+    ap (λ c. c && accepts_batches schema limits (after_batch schema table (made + 1) b) (made + 1) (journal ++ batch ∷ [])) parts.0
+    ∙ accepts_batches-snoc schema limits (after_batch schema table (made + 1) b) (made + 1) journal batch parts.1 one
 
 after_batches-snoc : (schema : Declarations) (table : Contents) (made : ℕ) (journal : List (List Command)) (batch : List Command)
     → after_batches schema table made (journal ++ batch ∷ []) ≡ after_batch schema (after_batches schema table made journal) (made + length journal + 1) batch

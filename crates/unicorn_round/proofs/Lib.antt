@@ -7,6 +7,7 @@ mod Items
 mod JournalSteps
 mod Lines
 mod Lists
+mod Made
 mod PlainLegal
 mod RanSteps
 mod Ranges

@@ -1,10 +1,10 @@
 -- Runs that end before anything is read.
-use Rattle.std.proofs.Common.{◌≡◌, ◌+◌, ◌<◌, ℕ, List, [], false, true, length, Option, None, Some, refl, subst, sym, arith}
+use Rattle.std.proofs.Common.{ℕ, List, [], false, Option, None, Some, refl, arith}
 use Rattle.uni_base.specs.declared.limits.Limits.{Limits}
 use Rattle.script_rounds.specs.Reading.{Gave}
 use Rattle.script_rounds.specs.Terms.{Terms}
 use Rattle.unicorn_round.specs.declared.status.Status.TheVariants as ends
-use Rattle.unicorn_round.specs.Outcome.{Claim, Ran, script_so_far}
+use Rattle.unicorn_round.specs.Outcome.{Ran, script_so_far}
 use Rattle.unicorn_round.specs.CheckLaws.{check_nothing}
 use Rattle.unicorn_round.specs.SerialLaws.{plain_nothing}
 use Rattle.unicorn_round.specs.Usage.{claim_of, closing_of}

@@ -1,8 +1,7 @@
 -- Checking line by line.
-use Rattle.std.specs.Prelude.{ℕ, Bool, ◌≡◌, List, [], length, ◌++◌}
+use Rattle.std.specs.Prelude.{ℕ, Bool, ◌≡◌, List, length}
 use Rattle.uni_table.specs.Contents.{Contents, empty}
 use Rattle.reply_text.specs.declared.answer.Answer.{Answer}
-use Rattle.reply_text.specs.Lines.{text_of}
 use Rattle.reply_text.specs.Printed.{lines_of_answers}
 use Rattle.script_rounds.specs.Entries.{Entry}
 use Rattle.script_rounds.specs.Terms.{Terms}

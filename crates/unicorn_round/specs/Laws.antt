@@ -3,13 +3,15 @@ use Rattle.std.specs.Prelude.{ℕ, ◌≡◌, ◌<◌, ◌≤◌, ◌+◌, ◌^�
 use Rattle.std.specs.List.{AllByRecursion}
 use Rattle.uni_base.specs.StandardLimits.{IsWithinStandard}
 use Rattle.uni_schema.specs.Schema.{IsSchema}
+use Rattle.uni_table.specs.Journals.{IsJournal}
 use Rattle.reply_text.specs.Printed.{answers_text}
 use Rattle.script_rounds.specs.Entries.{Entry, query_fault, line_of}
 use Rattle.script_rounds.specs.Laws.{all_entries}
 use Rattle.script_rounds.specs.RoundReads.{Rise}
 use Rattle.script_rounds.specs.Rounds.{rounds_from}
 use Rattle.script_rounds.specs.Terms.{Terms}
-use Rattle.unicorn_round.specs.Answers.{answers}
+use Rattle.unicorn_round.specs.Answers.{answers, after_rounds, opening_standing}
+use Rattle.unicorn_round.specs.Feeds.{made}
 use Rattle.unicorn_round.specs.Legal.{Legal}
 use Rattle.unicorn_round.specs.Marks.{Record}
 use Rattle.unicorn_round.specs.Records.{IsRecord}
@@ -38,3 +40,9 @@ pub record AnswersTell : Type 0 where
       → before + length lines ≤ 2 ^ 63 → FaultsAreSmall rounds
       → (told : Record) → (other : Record) → IsRecord terms rounds told → IsRecord terms rounds other → Legal terms rounds told
       → answers_text terms.schema (answers terms rounds told) ≡ answers_text terms.schema (answers terms rounds other) → told ≡ other
+
+-- What rounds publish, for any record of them, is a journal: no change of its batches is refused at its
+-- place, and there are no more batches than the limit of publishes.
+pub record RoundsMakeJournals : Type 0 where
+  pub journal : (terms : Terms) → (rounds : List (List Entry)) → (told : Record) → IsJournal terms.schema terms.limits (after_rounds terms (opening_standing terms) rounds told).feed.journal
+  pub few : (terms : Terms) → (rounds : List (List Entry)) → (told : Record) → made (after_rounds terms (opening_standing terms) rounds told).feed ≤ terms.limits.publishes

@@ -1,5 +1,5 @@
 //! Laws about definitions, each the contract of a function that does nothing of its own.
-ghost use Rattle.unicorn_round.specs.Laws.{AnswersTell};
+ghost use Rattle.unicorn_round.specs.Laws.{AnswersTell, RoundsMakeJournals};
 
 /// Equal answers are those of equal records, and so are answers of one text.
 pub fn answers_tell()
@@ -10,3 +10,9 @@ pub fn answers_tell()
     reply_text::laws::lines_are_unbroken();
     reply_text::laws::heads_by_text();
 }
+
+/// What the rounds of a script publish is a journal.
+#[tactic(auto, using(crate::proofs::Made::rounds_make_journals))]
+pub fn rounds_make_journals()
+    ensures { RoundsMakeJournals }
+{}

@@ -12,6 +12,7 @@ use uni_base::{Limits, MemorySink, MemorySource, Rows, Text, cut_at};
 mod faults;
 mod forms;
 mod limits;
+mod modes;
 mod operators;
 mod second_format;
 mod versions;

@@ -1,4 +1,4 @@
-use Rattle.std.proofs.Common.{◌≡◌, ◌+◌, ◌++◌, ◌∷◌, [], List, take, sym, ap, ◌∙◌, subst, refl, option_to_list}
+use Rattle.std.proofs.Common.{◌≡◌, ◌+◌, ◌++◌, ◌∷◌, [], take, sym, ap, ◌∙◌, subst, refl, option_to_list}
 use Rattle.std.proofs.lemmas.List.{take_more}
 use Rattle.reply_text.specs.Printed.{answers_text}
 use Rattle.script_rounds.specs.declared.item.Item.{Item}
