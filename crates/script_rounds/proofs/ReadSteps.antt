@@ -25,8 +25,8 @@ lines_went before after passed w rest stops =
       arith,
       w.lines,
       sym (length-map (lines_of (before.reader.ahead ++ (w.more ++ rest))) (take before.reader.kept))
-      ∙ ap length (w.same rest stops)
-      ∙ length-append passed (to_come after.reader rest),
+          ∙ ap length (w.same rest stops)
+          ∙ length-append passed (to_come after.reader rest),
       length-map (lines_of (after.reader.ahead ++ rest)) (take after.reader.kept),
     )
 
