@@ -17,6 +17,7 @@ pub mod Stands
 mod SeenNodes
 mod SetStandings
 mod StandingOf
+mod TermCuts
 mod Typed
 pub mod Unsharded
 mod WalkStandings

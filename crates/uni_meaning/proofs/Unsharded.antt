@@ -129,7 +129,7 @@ module _ (s : Declarations) (limits : Limits) (table : Contents) (is : IsSchema 
       by (inr past) = absurd (omega (arith, past.0, within))
 
   -- an entity of a vertical is in its shard
-  at_home : (vertical : ℕ) (x : DocKey) → Contains (ranked_all table vertical) x → Contains (ranked s table vertical (shard_of s vertical x.id)) x
+  pub at_home : (vertical : ℕ) (x : DocKey) → Contains (ranked_all table vertical) x → Contains (ranked s table vertical (shard_of s vertical x.id)) x
   at_home vertical x there =
       subst (λ (ks : List DocKey). Contains ks x) (sym (shards_part.lists s limits table vertical (shard_of s vertical x.id) kept))
       (is_left (λ (k : DocKey). shard_of s vertical k.id == shard_of s vertical x.id) (ranked_all table vertical) x there (itself (shard_of s vertical x.id)))
@@ -163,7 +163,7 @@ module _ (s : Declarations) (limits : Limits) (table : Contents) (is : IsSchema 
       (IsDistinct-IsPermutation (eq_by_cmp doc_cmp) (λ a b. is_eq_swap a b) (found plan) sharded (IsPermutation-sym sharded (found plan) moved) (IsDistinct-from_sorted doc_cmp (found plan) up))
       moved (λ k d low high. rises (found plan) up k d high))
 
-  cut_there : (plan : Plan) (vertical limit : ℕ) → IsOf s plan vertical → cut s table plan limit ≡ take limit (filter (is_hit s table plan) (ranked_all table vertical))
+  pub cut_there : (plan : Plan) (vertical limit : ℕ) → IsOf s plan vertical → cut s table plan limit ≡ take limit (filter (is_hit s table plan) (ranked_all table vertical))
   cut_there plan vertical limit of =
       ap (take limit) (all_there plan (subst (λ n. n < length s.verticals) (sym (vertical_is s plan vertical of)) (vertical_within s is plan vertical of)))
       ∙ ap (λ n. take limit (filter (is_hit s table plan) (ranked_all table n))) (vertical_is s plan vertical of)

@@ -13,7 +13,7 @@ use Rattle.uni_base.specs.declared.entity.DocKey.{DocKey}
 use Rattle.uni_schema.specs.Schema.{Declarations}
 use Rattle.uni_table.specs.Contents.{Contents, has_edge}
 use Rattle.uni_table.specs.Lists.{touching}
-use Rattle.uni_table.specs.Ranked.{ranked}
+use Rattle.uni_table.specs.Ranked.{doc_at, ranked}
 use Rattle.query_tree.specs.declared.kind.ListKind.{ListKind}
 use Rattle.query_tree.specs.declared.kind.ListKind.TheVariants.{And, Or, Difference, WeakAnd, StrongOr}
 use Rattle.query_tree.specs.declared.query.Mark.{Mark}
@@ -122,6 +122,10 @@ member_of v plan y = record { key = y; lineage = first_shown v.schema v.contents
 -- the members of a cut
 abbrev pub members_of : Viewed → Plan → List DocKey → List Member
 members_of v plan ys = map (member_of v plan) ys
+
+-- a member of a term's cut: an entity that an edge of the term leads to
+abbrev pub led_member : Viewed → ℕ → Key → ℕ → Option Member
+led_member v number key id = option_map (λ k. record { key = k; lineage = shown_of (by_edge v (edge_to number key id) []) }) (doc_at v.contents id)
 
 -- by a member of a join's cut
 abbrev pub through : Viewed → ℕ → DocKey → Member → Standing

@@ -13,7 +13,7 @@ use std::alloc::{AllocError, Global};
 use uni_base::EntityId;
 use uni_table::Table;
 
-/// Answers a query over a table, entity by entity.
+/// Answers a query over a table: a term by the edges of its key, any other query entity by entity.
 pub fn plain_answer(
     alloc: Global,
     table: &Table,

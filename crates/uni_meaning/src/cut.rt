@@ -34,6 +34,9 @@ impl<'t> View<'t> {
         ensures { IfOk result (λ members. members.items ≡ members_of self.now (stated_of query.now).plan
             (cut self.now.schema self.now.contents (stated_of query.now).plan limit)) }
     {
+        if let CheckedNode::Term { type_no, key } = &query.node {
+            return self.term_cut(*type_no, key, limit);
+        }
         let places = self.places(query.vertical)?;
         let standings = self.under(&query.node, places.as_slice())?;
         let mut members = self.members(places.as_slice(), standings.as_slice())?;

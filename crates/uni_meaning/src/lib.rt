@@ -13,6 +13,7 @@ mod pace;
 mod place;
 mod reply;
 mod standing;
+mod term;
 #[cfg(test)]
 mod tests;
 mod view;
