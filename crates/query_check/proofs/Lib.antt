@@ -3,4 +3,5 @@ pub mod Operands
 pub mod SeenLemmas
 pub mod Declares
 pub mod Columns
+pub mod Places
 pub mod Worked

@@ -15,6 +15,7 @@ pub mod Complete
 pub mod TextLaws
 pub mod Continued
 pub mod FirstFault
+pub mod Near
 pub mod Bytes
 pub mod AtomForms
 pub mod Segments

@@ -10,5 +10,6 @@ pub mod Seen
 pub mod Grammar
 pub mod TextLaws
 pub mod FirstFault
+pub mod Near
 pub mod PrintLaws
 pub mod Examples

@@ -1,5 +1,6 @@
 //! Laws about definitions, each the contract of a function that does nothing.
 ghost use Rattle.query_reader.specs.FirstFault.{FaultIsFirst};
+ghost use Rattle.query_reader.specs.Near.{FaultsAreNear};
 ghost use Rattle.query_reader.specs.PrintLaws.{PrintIsRead};
 ghost use Rattle.query_reader.specs.Spans.{TokensAreRuns};
 ghost use Rattle.query_reader.specs.TextLaws.{OneQueryOrFault, SecondHasFirst, SpelledIsWithin};
@@ -21,6 +22,13 @@ pub fn tokens_are_runs()
 #[tactic(auto, using(crate::proofs::FirstFault::fault_is_first))]
 pub fn fault_is_first()
     ensures { FaultIsFirst }
+{}
+
+/// The first fault has a code of the grammar and stands in the text or right after it; what is read of a
+/// text stands in it, with all its nodes.
+#[tactic(auto, using(crate::proofs::Near::faults_are_near))]
+pub fn faults_are_near()
+    ensures { FaultsAreNear }
 {}
 
 /// What a text spells is within the dialect: its names, its options, its size and its depth.
