@@ -20,7 +20,6 @@ use Rattle.script_rounds.specs.Terms.{Terms}
 use Rattle.unicorn_round.specs.declared.stacks.StackCover.{StackCover}
 use Rattle.unicorn_round.specs.Answers.{Standing, opening_standing, after_entry, after_entries, after_round, answers, entry_answers, entries_answers, round_answers, rounds_answers, replies}
 use Rattle.unicorn_round.specs.Feeds.{Feed, made, refusal_answers, too_many_publishes}
-use Rattle.unicorn_round.specs.Laws.{IsSmallFault}
 use Rattle.unicorn_round.specs.Legal.{AreMade, AreWithin}
 use Rattle.unicorn_round.specs.Marks.{Mark, plain, lacking, at, StackName, Record}
 use Rattle.unicorn_round.specs.Stacks.{is_due, is_untidied, tidy_answer, tidy_answers, row_of, rows_of}
@@ -34,7 +33,6 @@ pub record IsFine (terms : Terms) (entry : Entry) : Type 0 where
   pub whole : HasWhole entry
   pub range : IsInRange terms entry
   pub line : line_of entry ≤ 2 ^ 63
-  pub small : IsSmallFault entry
 
 whole-of : (terms : Terms) (entries : List Entry) → AllByRecursion (IsFine terms) entries → AllByRecursion HasWhole entries
 whole-of terms entries fine = all-wider (IsFine terms) HasWhole (λ entry one. one.whole) entries fine
@@ -212,8 +210,8 @@ module _ (terms : Terms) where
     entry-small end feed (fault line code) plain keeps few fine ok = ((omega (arith, fine.line), (omega (arith, fine.range), tt)), tt)
     entry-small end feed (fault line code) (at n) keeps few fine ok = ((omega (arith, fine.line), (omega (arith, fine.range), tt)), tt)
     entry-small end feed (query_fault line code column) lacking keeps few fine ok = ((omega (arith, fine.line), tt), tt)
-    entry-small end feed (query_fault line code column) plain keeps few fine ok = ((omega (arith, fine.line), (fine.small.0, (fine.small.1, tt))), tt)
-    entry-small end feed (query_fault line code column) (at n) keeps few fine ok = ((omega (arith, fine.line), (fine.small.0, (fine.small.1, tt))), tt)
+    entry-small end feed (query_fault line code column) plain keeps few fine ok = ((omega (arith, fine.line), (omega (arith, fine.range.0), (omega (arith, fine.range.1), tt))), tt)
+    entry-small end feed (query_fault line code column) (at n) keeps few fine ok = ((omega (arith, fine.line), (omega (arith, fine.range.0), (omega (arith, fine.range.1), tt))), tt)
 
     pub small-passes : Passes terms IsSmall HasSmall
     small-passes = record {

@@ -9,6 +9,7 @@ mod Lines
 mod Lists
 mod Made
 mod PlainLegal
+mod QueryFaults
 mod RanSteps
 mod Ranges
 mod Reading

@@ -6,6 +6,7 @@ use Rattle.std.specs.Option.{option_and_then, option_map_or}
 use Rattle.std.specs.Prelude.{Result, Ok, Err}
 use Rattle.uni_base.specs.Fields.{same, fields_of, is_skipped}
 use Rattle.uni_base.specs.Numbers.{id_of, number_between, number_of}
+use Rattle.uni_base.specs.StandardLimits.{IsWithinStandard}
 use Rattle.uni_schema.specs.Schema.{vertical_no, vertical_at}
 use Rattle.uni_schema.specs.declared.schema.VerticalDef.{VerticalDef}
 use Rattle.query_check.specs.Plan.{Stated}
@@ -24,6 +25,7 @@ use Rattle.script_rounds.specs.RoundReads.{Rise}
 use Rattle.script_rounds.specs.Rounds.{counted_after, in_front, rounds_from, entry_in}
 use Rattle.script_rounds.specs.Terms.{Terms}
 use Rattle.unicorn_round.proofs.Lines.{rise-order}
+use Rattle.unicorn_round.proofs.QueryFaults.{IsNear, field-short, query-short}
 use Rattle.unicorn_round.proofs.Wholes.{IsWhole}
 
 -- no word of a change holds an LF
@@ -37,7 +39,7 @@ HasWhole (refused line code) = Unit {0}
 HasWhole (fault line code) = Unit {0}
 HasWhole (query_fault line code column) = Unit {0}
 
--- an `ask` wants no more hits than it may, and codes are small
+-- an `ask` wants no more hits than it may, codes are small, and so are columns, which stand in a line
 abbrev pub IsInRange : Terms → Entry → Type 0
 IsInRange terms (change line command) = Unit {0}
 IsInRange terms (publish line) = Unit {0}
@@ -46,7 +48,7 @@ IsInRange terms (compact line vertical shard replica) = Unit {0}
 IsInRange terms (stats line) = Unit {0}
 IsInRange terms (refused line code) = code ≤ 99
 IsInRange terms (fault line code) = code ≤ 99
-IsInRange terms (query_fault line code column) = Unit {0}
+IsInRange terms (query_fault line code column) = (code ≤ 99) × (column ≤ 65537)
 
 -- what holds of both holds of the one that is chosen
 either : {A : Type 0} (P : Entry → Type 0) (f : A → Entry) (none : Entry) (found : Option A) → ((x : A) → P (f x)) → P none → P (option_map_or f found none)
@@ -69,22 +71,6 @@ between-high low high text = by (number_of text)
     by (Some n) = within n (nat_le low n && nat_le n high) refl
 
 module _ (terms : Terms) where
-  query-range : (number session viewer limit : ℕ) (found : Result Stated Mistyped) → limit ≤ most_hits terms → IsInRange terms (query_entry number session viewer limit found)
-  query-range number session viewer limit (Ok stated) few = few
-  query-range number session viewer limit (Err first) few = tt
-
-  ask-range : (number : ℕ) (parts : AskParts) → IsInRange terms (ask_entry terms number parts)
-  unfolding ask_entry
-  ask-range number parts =
-      by (id_of parts.viewer) (number_between 1 terms.limits.sessions parts.session) (number_between 1 (most_hits terms) parts.limit) (between-high 1 (most_hits terms) parts.limit)
-    where
-      by : (v s l : Option ℕ) → IfSome l (λ n. n ≤ most_hits terms)
-          → IsInRange terms (option_map_or (λ viewer. option_map_or (λ session. option_map_or (λ limit. query_entry number session viewer limit (query_of terms parts.query)) l (fault number 63)) s (fault number 62)) v (fault number 61))
-      by None s l few = omega arith
-      by (Some v) None l few = omega arith
-      by (Some v) (Some s) None few = omega arith
-      by (Some v) (Some s) (Some l) few = query-range number s v l (query_of terms parts.query) few
-
   compact-range : (number : ℕ) (fields : List (List ℕ)) → IsInRange terms (compact_entry terms.schema number fields)
   compact-range number fields =
       let unknown : 12 ≤ 99 = omega arith in
@@ -100,39 +86,11 @@ module _ (terms : Terms) where
   feed-range number (Err BadLine) = omega arith
   feed-range number (Err UnknownName) = omega arith
 
-  form-range : (number : ℕ) (line : List ℕ) → IsInRange terms (form_entry terms number line)
-  form-range number line =
-      let cut = first_field line in
-      let feed : Entry = feed_entry number (feed_line_of terms.schema line) in
-      let rest : Entry = if same line (codes "stats") then stats number else feed in
-      let others : Entry = if same cut.0 (codes "compact") then compact_entry terms.schema number (fields_of cut.1) else rest in
-      chosen (IsInRange terms) (same cut.0 (codes "ask")) (ask_entry terms number (parts_of cut.1)) others (ask-range number (parts_of cut.1))
-      (chosen (IsInRange terms) (same cut.0 (codes "compact")) (compact_entry terms.schema number (fields_of cut.1)) rest (compact-range number (fields_of cut.1))
-      (chosen (IsInRange terms) (same line (codes "stats")) (stats number) feed tt (feed-range number (feed_line_of terms.schema line))))
-
-  counted-range : (number before : ℕ) (line : List ℕ) → IsInRange terms (counted_entry terms number before line)
-  counted-range number before line =
-      let long : 64 ≤ 99 = omega arith in
-      let many : 65 ≤ 99 = omega arith in
-      let within : Entry = if nat_le terms.limits.round before then fault number 65 else form_entry terms number line in
-      chosen (IsInRange terms) (nat_lt terms.limits.line (length line)) (fault number 64) within long
-      (chosen (IsInRange terms) (nat_le terms.limits.round before) (fault number 65) (form_entry terms number line) many (form-range number line))
-
   -- something holds of the entry of a line, if it has one
   abbrev IsSuch : (Entry → Type 0) → Role → Type 0
   IsSuch P go = Unit {0}
   IsSuch P skipped = Unit {0}
   IsSuch P (counted entry) = P entry
-
-  role-range : (number before : ℕ) (line : List ℕ) → IsSuch (IsInRange terms) (role_of terms number before line)
-  unfolding role_of
-  role-range number before line = by (is_go line) (is_skipped line) (nat_lt terms.limits.round before)
-    where
-      by : (a b c : Bool) → IsSuch (IsInRange terms) (if a then go else (if b then skipped else (if c then skipped else counted (counted_entry terms number before line))))
-      by true b c = tt
-      by false true c = tt
-      by false false true = tt
-      by false false false = counted-range number before line
 
   role-whole : WordsAreUnbroken → (number before : ℕ) (line : List ℕ) → IsSuch HasWhole (role_of terms number before line)
   role-whole words number before line = by (role_of terms number before line) refl
@@ -170,11 +128,62 @@ module _ (terms : Terms) where
       front skipped one entries all = all
       front (counted entry) one entries all = (one, all)
 
-  pub all-range : (number before : ℕ) (lines : List (List ℕ)) → AllByRecursion (IsInRange terms) (all_entries (rounds_from terms number before lines))
-  all-range number before lines = such (IsInRange terms) role-range number before lines
-
   pub all-whole : WordsAreUnbroken → (number before : ℕ) (lines : List (List ℕ)) → AllByRecursion HasWhole (all_entries (rounds_from terms number before lines))
   all-whole words number before lines = such HasWhole (role-whole words) number before lines
+
+  -- a query's first fault is small, where its text is no longer than a line may be
+  module _ (small : (text : List ℕ) → length text ≤ 65536 → IsNear (query_of terms text)) (standard : IsWithinStandard terms.limits) where
+    query-range : (number session viewer limit : ℕ) (found : Result Stated Mistyped) → limit ≤ most_hits terms → IsNear found
+        → IsInRange terms (query_entry number session viewer limit found)
+    query-range number session viewer limit (Ok stated) few bounds = few
+    query-range number session viewer limit (Err first) few bounds = bounds
+
+    ask-range : (number : ℕ) (parts : AskParts) → length parts.query ≤ 65536 → IsInRange terms (ask_entry terms number parts)
+    unfolding ask_entry
+    ask-range number parts short =
+        by (id_of parts.viewer) (number_between 1 terms.limits.sessions parts.session) (number_between 1 (most_hits terms) parts.limit) (between-high 1 (most_hits terms) parts.limit)
+      where
+        by : (v s l : Option ℕ) → IfSome l (λ n. n ≤ most_hits terms)
+            → IsInRange terms (option_map_or (λ viewer. option_map_or (λ session. option_map_or (λ limit. query_entry number session viewer limit (query_of terms parts.query)) l (fault number 63)) s (fault number 62)) v (fault number 61))
+        by None s l few = omega arith
+        by (Some v) None l few = omega arith
+        by (Some v) (Some s) None few = omega arith
+        by (Some v) (Some s) (Some l) few = query-range number s v l (query_of terms parts.query) few (small parts.query short)
+
+    form-range : (number : ℕ) (line : List ℕ) → length line ≤ 65536 → IsInRange terms (form_entry terms number line)
+    form-range number line short =
+        let cut = first_field line in
+        let feed : Entry = feed_entry number (feed_line_of terms.schema line) in
+        let rest : Entry = if same line (codes "stats") then stats number else feed in
+        let others : Entry = if same cut.0 (codes "compact") then compact_entry terms.schema number (fields_of cut.1) else rest in
+        chosen (IsInRange terms) (same cut.0 (codes "ask")) (ask_entry terms number (parts_of cut.1)) others
+        (ask-range number (parts_of cut.1) (omega (arith, field-short line, query-short cut.1, short)))
+        (chosen (IsInRange terms) (same cut.0 (codes "compact")) (compact_entry terms.schema number (fields_of cut.1)) rest (compact-range number (fields_of cut.1))
+        (chosen (IsInRange terms) (same line (codes "stats")) (stats number) feed tt (feed-range number (feed_line_of terms.schema line))))
+
+    counted-range : (number before : ℕ) (line : List ℕ) → IsInRange terms (counted_entry terms number before line)
+    counted-range number before line = by (nat_lt terms.limits.line (length line)) refl
+      where
+        by : (long : Bool) → nat_lt terms.limits.line (length line) ≡ long
+            → IsInRange terms (if long then fault number 64 else (if nat_le terms.limits.round before then fault number 65 else form_entry terms number line))
+        by true is_long = omega arith
+        by false is_short =
+            let short : length line ≤ terms.limits.line = grind (arith, nat_tests) in
+            chosen (IsInRange terms) (nat_le terms.limits.round before) (fault number 65) (form_entry terms number line) (omega arith)
+            (form-range number line (omega (arith, short, standard.line)))
+
+    role-range : (number before : ℕ) (line : List ℕ) → IsSuch (IsInRange terms) (role_of terms number before line)
+    unfolding role_of
+    role-range number before line = by (is_go line) (is_skipped line) (nat_lt terms.limits.round before)
+      where
+        by : (a b c : Bool) → IsSuch (IsInRange terms) (if a then go else (if b then skipped else (if c then skipped else counted (counted_entry terms number before line))))
+        by true b c = tt
+        by false true c = tt
+        by false false true = tt
+        by false false false = counted-range number before line
+
+    pub all-range : (number before : ℕ) (lines : List (List ℕ)) → AllByRecursion (IsInRange terms) (all_entries (rounds_from terms number before lines))
+    all-range number before lines = such (IsInRange terms) role-range number before lines
 
 -- numbers that rise are not above the high one
 pub rise-below : (low high : ℕ) (entries : List Entry) → Rise low high (map line_of entries) → AllByRecursion (λ entry. line_of entry ≤ high) entries

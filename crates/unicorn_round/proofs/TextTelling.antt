@@ -4,6 +4,8 @@ use Rattle.std.proofs.lemmas.List.Elements.{All-from_recursion, All-weaker}
 use Rattle.std.specs.List.{All, AllByRecursion}
 use Rattle.uni_base.specs.StandardLimits.{IsWithinStandard}
 use Rattle.uni_schema.specs.Schema.{IsSchema}
+use Rattle.query_reader.specs.Near.{FaultsAreNear}
+use Rattle.query_check.specs.Laws.{FaultsStandIn}
 use Rattle.reply_text.specs.declared.answer.Answer.{Answer}
 use Rattle.reply_text.specs.Heads.{head_of}
 use Rattle.reply_text.specs.Laws.{AreDeclared, HeadsAreSmall, HeadsByText, LinesAreUnbroken, numbers_of, words_of}
@@ -14,13 +16,14 @@ use Rattle.script_rounds.specs.Laws.{NumbersRise, WordsAreUnbroken, all_entries}
 use Rattle.script_rounds.specs.Rounds.{rounds_from}
 use Rattle.script_rounds.specs.Terms.{Terms}
 use Rattle.unicorn_round.specs.Answers.{answers, opening_standing}
-use Rattle.unicorn_round.specs.Laws.{AnswersTell, FaultsAreSmall, IsSmallFault}
+use Rattle.unicorn_round.specs.Laws.{AnswersTell}
 use Rattle.unicorn_round.specs.Legal.{Legal}
 use Rattle.unicorn_round.specs.Marks.{Record}
 use Rattle.unicorn_round.specs.Records.{IsRecord}
 use Rattle.unicorn_round.proofs.Bounded.{opening-keeps}
 use Rattle.unicorn_round.proofs.Elements.{all-both, all-wider}
 use Rattle.unicorn_round.proofs.Fitting.{IsFine, IsPrinted, IsSmall, Any, HasSmall, answers-pass, any-marks, printed-passes, small-marks, small-passes}
+use Rattle.unicorn_round.proofs.QueryFaults.{query-near}
 use Rattle.unicorn_round.proofs.Ranges.{HasWhole, IsInRange, all-range, all-whole, rise-below}
 use Rattle.unicorn_round.proofs.Telling.{heads_tell}
 use Rattle.unicorn_round.proofs.Wholes.{unbroken-append}
@@ -29,22 +32,22 @@ words-unbroken : (all : List Answer) → AllByRecursion (λ answer. AreUnbroken 
 words-unbroken [] none = refl
 words-unbroken (answer ∷ all) none = unbroken-append (words_of answer) (flat_map words_of all) none.0 (words-unbroken all none.1)
 
-module _ (rises : NumbersRise) (words : WordsAreUnbroken) (unbroken : LinesAreUnbroken) (by_text : HeadsByText) where
+module _ (rises : NumbersRise) (words : WordsAreUnbroken) (near : FaultsAreNear) (places : FaultsStandIn) (unbroken : LinesAreUnbroken) (by_text : HeadsByText) where
   module _ (terms : Terms) (is : IsSchema terms.schema) (within : IsWithinStandard terms.limits) where
     -- what is known of the entries of lines
-    entries-fine : (before : ℕ) (lines : List (List ℕ)) → before + length lines ≤ 2 ^ 63 → FaultsAreSmall (rounds_from terms (before + 1) 0 lines)
+    entries-fine : (before : ℕ) (lines : List (List ℕ)) → before + length lines ≤ 2 ^ 63
         → AllByRecursion (IsFine terms) (all_entries (rounds_from terms (before + 1) 0 lines))
-    entries-fine before lines few small =
+    entries-fine before lines few =
         let entries : List Entry = all_entries (rounds_from terms (before + 1) 0 lines) in
         let low : AllByRecursion (λ entry. line_of entry ≤ 2 ^ 63) entries =
         all-wider (λ entry. line_of entry ≤ before + length lines) (λ entry. line_of entry ≤ 2 ^ 63) (λ entry below. omega (arith, below, few)) entries
         (rise-below before (before + length lines) entries (rises.rise terms before 0 lines)) in
         let first : AllByRecursion (λ entry. HasWhole entry × IsInRange terms entry) entries =
-        all-both HasWhole (IsInRange terms) entries (all-whole terms words (before + 1) 0 lines) (all-range terms (before + 1) 0 lines) in
-        let second : AllByRecursion (λ entry. (line_of entry ≤ 2 ^ 63) × IsSmallFault entry) entries = all-both (λ entry. line_of entry ≤ 2 ^ 63) IsSmallFault entries low small in
-        all-wider (λ entry. (HasWhole entry × IsInRange terms entry) × ((line_of entry ≤ 2 ^ 63) × IsSmallFault entry)) (IsFine terms)
-        (λ entry all. record { whole = all.0.0; range = all.0.1; line = all.1.0; small = all.1.1 }) entries
-        (all-both (λ entry. HasWhole entry × IsInRange terms entry) (λ entry. (line_of entry ≤ 2 ^ 63) × IsSmallFault entry) entries first second)
+        all-both HasWhole (IsInRange terms) entries (all-whole terms words (before + 1) 0 lines)
+        (all-range terms (query-near near places terms) within (before + 1) 0 lines) in
+        all-wider (λ entry. (HasWhole entry × IsInRange terms entry) × (line_of entry ≤ 2 ^ 63)) (IsFine terms)
+        (λ entry all. record { whole = all.0.0; range = all.0.1; line = all.1 }) entries
+        (all-both (λ entry. HasWhole entry × IsInRange terms entry) (λ entry. line_of entry ≤ 2 ^ 63) entries first low)
 
     printed : (rounds : List (List Entry)) → AllByRecursion (IsFine terms) (all_entries rounds) → (told : Record) → AllByRecursion (IsPrinted terms) (answers terms rounds told)
     printed rounds fine told = answers-pass terms (IsPrinted terms) (Any terms) (printed-passes terms) rounds told (opening-keeps terms is) fine (any-marks terms told)
@@ -67,13 +70,13 @@ module _ (rises : NumbersRise) (words : WordsAreUnbroken) (unbroken : LinesAreUn
         (answers-pass terms (IsSmall terms) (HasSmall terms) (small-passes terms within) rounds told (opening-keeps terms is) fine
         (small-marks terms within (opening_standing terms) rounds told (opening-keeps terms is) fine legal.made)))
 
-    texts-tell : (before : ℕ) (lines : List (List ℕ)) → before + length lines ≤ 2 ^ 63 → FaultsAreSmall (rounds_from terms (before + 1) 0 lines)
+    texts-tell : (before : ℕ) (lines : List (List ℕ)) → before + length lines ≤ 2 ^ 63
         → (told other : Record) → IsRecord terms (rounds_from terms (before + 1) 0 lines) told → IsRecord terms (rounds_from terms (before + 1) 0 lines) other
         → Legal terms (rounds_from terms (before + 1) 0 lines) told
         → answers_text terms.schema (answers terms (rounds_from terms (before + 1) 0 lines) told) ≡ answers_text terms.schema (answers terms (rounds_from terms (before + 1) 0 lines) other) → told ≡ other
-    texts-tell before lines few small told other a b legal same =
+    texts-tell before lines few told other a b legal same =
         let rounds : List (List Entry) = rounds_from terms (before + 1) 0 lines in
-        let fine : AllByRecursion (IsFine terms) (all_entries rounds) = entries-fine before lines few small in
+        let fine : AllByRecursion (IsFine terms) (all_entries rounds) = entries-fine before lines few in
         heads_tell terms rounds before (before + length lines) told other (rises.rise terms before 0 lines) a b
         (by_text.same terms.schema (answers terms rounds told) (answers terms rounds other) is (declared rounds fine told) (declared rounds fine other)
         (lines-unbroken rounds fine told) (lines-unbroken rounds fine other) (small-heads rounds fine told legal) same)
@@ -81,9 +84,9 @@ module _ (rises : NumbersRise) (words : WordsAreUnbroken) (unbroken : LinesAreUn
   pub answers_tell : AnswersTell
   answers_tell = record {
     values = λ terms rounds low high rise told other a b same. heads_tell terms rounds low high told other rise a b (ap (map head_of) same);
-    texts = λ terms is within rounds before lines of few small told other a b legal same.
+    texts = λ terms is within rounds before lines of few told other a b legal same.
         subst
-        (λ (rs : List (List Entry)). FaultsAreSmall rs → IsRecord terms rs told → IsRecord terms rs other → Legal terms rs told
+        (λ (rs : List (List Entry)). IsRecord terms rs told → IsRecord terms rs other → Legal terms rs told
         → answers_text terms.schema (answers terms rs told) ≡ answers_text terms.schema (answers terms rs other) → told ≡ other)
-        (sym of) (λ small a b legal same. texts-tell terms is within before lines few small told other a b legal same) small a b legal same;
+        (sym of) (λ a b legal same. texts-tell terms is within before lines few told other a b legal same) a b legal same;
   }

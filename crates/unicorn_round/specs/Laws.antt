@@ -1,11 +1,10 @@
 -- What answers tell.
-use Rattle.std.specs.Prelude.{ℕ, ◌≡◌, ◌<◌, ◌≤◌, ◌+◌, ◌^◌, List, length, map, ⊤}
-use Rattle.std.specs.List.{AllByRecursion}
+use Rattle.std.specs.Prelude.{ℕ, ◌≡◌, ◌≤◌, ◌+◌, ◌^◌, List, length, map}
 use Rattle.uni_base.specs.StandardLimits.{IsWithinStandard}
 use Rattle.uni_schema.specs.Schema.{IsSchema}
 use Rattle.uni_table.specs.Journals.{IsJournal}
 use Rattle.reply_text.specs.Printed.{answers_text}
-use Rattle.script_rounds.specs.Entries.{Entry, query_fault, line_of}
+use Rattle.script_rounds.specs.Entries.{Entry, line_of}
 use Rattle.script_rounds.specs.Laws.{all_entries}
 use Rattle.script_rounds.specs.RoundReads.{Rise}
 use Rattle.script_rounds.specs.Rounds.{rounds_from}
@@ -16,19 +15,10 @@ use Rattle.unicorn_round.specs.Legal.{Legal}
 use Rattle.unicorn_round.specs.Marks.{Record}
 use Rattle.unicorn_round.specs.Records.{IsRecord}
 
--- the code and the column of a query at fault are numbers of 64 bits
-abbrev pub IsSmallFault : Entry → Type 0
-IsSmallFault (query_fault line code column) = (code < 2 ^ 64) × (column < 2 ^ 64)
-IsSmallFault entry = ⊤
-
--- so are those of all queries of rounds
-abbrev pub FaultsAreSmall : List (List Entry) → Type 0
-FaultsAreSmall rounds = AllByRecursion IsSmallFault (all_entries rounds)
-
 -- Answers tell their record: two records of rounds that have the same answers are the same, where no two
 -- entries have the same line number. So are two records of a script's rounds whose answers are of the same
--- text, where one of them is a legal one, limits are within the standard ones, and the numbers of lines and
--- those of queries at fault are small.
+-- text, where one of them is a legal one, limits are within the standard ones, and the numbers of lines are
+-- small.
 pub record AnswersTell : Type 0 where
   pub values :
       (terms : Terms) → (rounds : List (List Entry)) → (low : ℕ) → (high : ℕ) → Rise low high (map line_of (all_entries rounds))
@@ -37,7 +27,7 @@ pub record AnswersTell : Type 0 where
   pub texts :
       (terms : Terms) → IsSchema terms.schema → IsWithinStandard terms.limits
       → (rounds : List (List Entry)) → (before : ℕ) → (lines : List (List ℕ)) → rounds ≡ rounds_from terms (before + 1) 0 lines
-      → before + length lines ≤ 2 ^ 63 → FaultsAreSmall rounds
+      → before + length lines ≤ 2 ^ 63
       → (told : Record) → (other : Record) → IsRecord terms rounds told → IsRecord terms rounds other → Legal terms rounds told
       → answers_text terms.schema (answers terms rounds told) ≡ answers_text terms.schema (answers terms rounds other) → told ≡ other
 

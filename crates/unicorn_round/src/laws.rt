@@ -7,6 +7,8 @@ pub fn answers_tell()
 {
     script_rounds::laws::numbers_rise();
     script_rounds::laws::words_are_unbroken();
+    query_reader::laws::faults_are_near();
+    query_check::laws::faults_stand_in();
     reply_text::laws::lines_are_unbroken();
     reply_text::laws::heads_by_text();
 }
