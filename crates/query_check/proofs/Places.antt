@@ -1,5 +1,5 @@
 -- Faults stand at the places of their query.
-use Rattle.std.proofs.Common.{◌≡◌, ◌⊎◌, ℕ, ◌+◌, ◌≤◌, Bool, true, false, cond, List, Option, None, Some, Result, Ok, Err, refl, inl, inr, subst, arith}
+use Rattle.std.proofs.Common.{ℕ, ◌+◌, ◌≤◌, Bool, true, false, cond, List, Option, None, Some, Result, Ok, Err, refl, inl, inr, subst, arith}
 use Rattle.std.specs.Prelude.{nat_le, ok_or}
 use Rattle.std.specs.Option.{option_map}
 use Rattle.uni_schema.specs.Schema.{Declarations}
