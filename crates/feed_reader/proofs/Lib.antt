@@ -1,8 +1,12 @@
+pub mod Circles
 pub mod Digits
 pub mod Forms
+pub mod FrontNumbers
+pub mod Fronts
 pub mod Numerals
 pub mod Parts
 pub mod Places
 pub mod Printed
+pub mod Taken
 pub mod Texts
 pub mod Worked

@@ -59,6 +59,9 @@ word_no_colon c h = grind (arith, nat_tests)
 digit_no_space : (c : ℕ) → is_digit c ≡ true → is_other 32 c ≡ true
 digit_no_space c h = grind (arith, nat_tests)
 
+pub digits_solid : (text : List ℕ) → list_all is_digit text ≡ true → list_all (is_other 32) text ≡ true
+digits_solid text digits = all_weaker is_digit (is_other 32) digit_no_space text digits
+
 word_bytes : (word : List ℕ) → is_word word ≡ true → list_all is_word_byte word ≡ true
 word_bytes word is = (and_parts (nat_le 1 (length word) && nat_le (length word) 32) (list_all is_word_byte word) is).1
 
@@ -72,13 +75,17 @@ word_solid word is = all_weaker is_word_byte (is_other 32) word_no_space word (w
 pub name_solid : (name : List ℕ) → is_name name ≡ true → list_all (is_other 32) name ≡ true
 name_solid name named = all_weaker is_word_byte (is_other 32) word_no_space name (name_bytes name named)
 
+-- nor does a name hold a colon
+pub name_no_colon : (name : List ℕ) → is_name name ≡ true → list_all (is_other 58) name ≡ true
+name_no_colon name named = all_weaker is_word_byte (is_other 58) word_no_colon name (name_bytes name named)
+
 pub number_solid : (low high n : ℕ) → high < 2 ^ 64 → is_between low high n ≡ true → list_all (is_other 32) (decimal n) ≡ true
 number_solid low high n small within =
     let under : n ≤ high = leb-true n high (and_parts (nat_le low n) (nat_le n high) within).1 in
     all_weaker is_digit (is_other 32) digit_no_space (decimal n) (decimal_digits n (omega arith))
 
 -- a text that is cut is its parts with the separator between
-cut_joined : (separator : ℕ) (text front rest : List ℕ) → cut_at separator text ≡ Some (front, rest) → text ≡ front ++ separator ∷ rest
+pub cut_joined : (separator : ℕ) (text front rest : List ℕ) → cut_at separator text ≡ Some (front, rest) → text ≡ front ++ separator ∷ rest
 cut_joined separator [] front rest e = cc
 cut_joined separator (c ∷ cs) front rest e = by (c == separator) (cut_at separator cs) refl (cut_joined separator cs) e
   where
@@ -101,7 +108,7 @@ untrue true e = cc
 untrue false e = refl
 
 -- and it is cut there, where the front has none
-cut_given : (separator : ℕ) (front rest : List ℕ) → list_all (is_other separator) front ≡ true → cut_at separator (front ++ separator ∷ rest) ≡ Some (front, rest)
+pub cut_given : (separator : ℕ) (front rest : List ℕ) → list_all (is_other separator) front ≡ true → cut_at separator (front ++ separator ∷ rest) ≡ Some (front, rest)
 cut_given separator [] rest clear = ap (λ b. if◌then◌else◌ {A = Option (List ℕ × List ℕ)} b (Some ([], rest)) (option_map (λ p. (separator ∷ p.0, p.1)) (cut_at separator rest))) (equal_self separator)
 cut_given separator (c ∷ front) rest clear =
     let parts = and_parts (is_other separator c) (list_all (is_other separator) front) clear in
@@ -155,7 +162,7 @@ audience_given public_audience is = refl
 audience_given only_audience is = refl
 audience_given (circle_audience type_name key) is =
     let parts = and_parts (is_name type_name) (is_word key) is in
-    let clear = all_weaker is_word_byte (is_other 58) word_no_colon type_name (name_bytes type_name parts.0) in
+    let clear = name_no_colon type_name parts.0 in
     ap (option_and_then circle_of) (cut_given 58 type_name key clear)
     ∙ ap (option_and_then (λ name. option_map (λ k. circle_audience name k) (word_of key))) (name_given type_name parts.0)
     ∙ ap (option_map (λ k. circle_audience type_name k)) (word_given key parts.1)

@@ -1,5 +1,7 @@
+pub mod Digits
 pub mod Examples
 pub mod FeedText
+pub mod Fields
 pub mod Names
 pub mod Parts
 pub mod Printing

@@ -1,6 +1,6 @@
 -- The names that were found last, each with its number.
-use Rattle.std.specs.Prelude.{ℕ, ◌≡◌, true, if◌then◌else◌, List, Option, None, Some, ⊤}
-use Rattle.uni_base.specs.Fields.{same}
+use Rattle.std.specs.Prelude.{ℕ, ◌≡◌, true, List, ◌∷◌, Option, None, Some, ⊤}
+use Rattle.feed_reader.specs.Fields.{in_front, onto_fields}
 use Rattle.uni_schema.specs.Schema.{Declarations, is_name, vertical_no, type_no}
 use Rattle.feed_reader.specs.declared.names.Found.{Found}
 use Rattle.feed_reader.specs.declared.names.LastNames.{LastNames}
@@ -16,7 +16,12 @@ pub record AreOf (schema : Declarations) (names : LastNames) : Type 0 where
   pub edge_type : IsFoundBy (type_no schema) names.edge_type
   pub circle : IsFoundBy (type_no schema) names.circle
 
--- the number that was found under a text, if it is the last name
-abbrev pub last_number : Option Found → List ℕ → Option ℕ
-last_number None text = None
-last_number (Some found) text = if same found.name text then Some found.number else None
+-- the last name with its number was the first field, which was taken
+abbrev pub IsLast : Option Found → (old new : List (List ℕ)) → ℕ → Type 0
+IsLast None old new number = ⊥
+IsLast (Some found) old new number = (old ≡ found.name ∷ new) × (number ≡ found.number)
+
+-- the last name with its number stood before a colon at the front of the first field, and both were taken off it
+abbrev pub IsLastBefore : Option Found → (old new : List (List ℕ)) → ℕ → Type 0
+IsLastBefore None old new number = ⊥
+IsLastBefore (Some found) old new number = (old ≡ onto_fields (in_front found.name) new) × (number ≡ found.number)

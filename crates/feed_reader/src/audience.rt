@@ -1,40 +1,77 @@
 ghost use Rattle.std.specs.Prelude.{◌≡◌, Some, None, MatchResult, IfOk, IfSome, unwrap_or};
 ghost use Rattle.std.specs.Option.{option_map};
+ghost use Rattle.feed_reader.specs.Fields.{TakesAs};
 ghost use Rattle.feed_reader.specs.Names.{AreOf};
-ghost use Rattle.feed_reader.specs.Parts.{told, audience_told};
-ghost use Rattle.feed_reader.specs.Reading.{circle_parts, until_in};
+ghost use Rattle.feed_reader.specs.Parts.{audience_by, circle_by, told};
+ghost use Rattle.feed_reader.specs.Reading.{until_in};
 ghost use Rattle.uni_table.specs.Commands.{IsDeclaredAudience};
 ghost use Rattle.feed_reader.specs.declared.fault.LineFault.TheVariants.{BadLine};
 
-use crate::field::{end_of, next_of, number_of, word_of};
+use crate::fields::LineFields;
 use crate::{LastNames, LineFault};
-use uni_base::{Fields, cut_at};
+use uni_base::{Word, cut_at};
 use uni_schema::Schema;
 use uni_table::AudienceText;
 
 /// The last publish that may end an edge, by its number.
 const LAST_UNTIL: u64 = 1 << 20;
 
-// An audience. None where it is a circle of a type that is not declared.
+// The audience that the next field is. None where it is a circle of a type that is not declared.
 pub(crate) fn read_audience(
+    schema: &Schema,
+    names: &mut LastNames,
+    fields: &mut LineFields<'_>,
+) -> Result<Option<AudienceText>, LineFault>
+    requires { AreOf schema.now names.old }
+    ensures audience { TakesAs (audience_by schema.now) fields.old fields.new result }
+    ensures declared { IfOk result (λ audience. IfSome audience (IsDeclaredAudience schema.now)) }
+    ensures names { AreOf schema.now names.new }
+{
+    if fields.take_word(b"public") {
+        return Ok(Some(AudienceText::Public));
+    }
+    if fields.take_word(b"only") {
+        return Ok(Some(AudienceText::Only));
+    }
+    if fields.take_front(b"in") {
+        read_circle(schema, names, fields)
+    } else {
+        Err(LineFault::BadLine)
+    }
+}
+
+// The circle that the next field is, after `in:`. None where its type is not declared.
+fn read_circle(
+    schema: &Schema,
+    names: &mut LastNames,
+    fields: &mut LineFields<'_>,
+) -> Result<Option<AudienceText>, LineFault>
+    requires { AreOf schema.now names.old }
+    ensures circle { TakesAs (circle_by schema.now) fields.old fields.new result }
+    ensures declared { IfOk result (λ audience. IfSome audience (IsDeclaredAudience schema.now)) }
+    ensures names { AreOf schema.now names.new }
+{
+    if let Some(number) = names.take_circle(fields) {
+        let key = fields.word()?;
+        return Ok(Some(AudienceText::Circle(number, key)));
+    }
+    circle_of(schema, names, fields.next()?)
+}
+
+// The circle that a text is, after `in:`, likewise.
+fn circle_of(
     schema: &Schema,
     names: &mut LastNames,
     text: &[u8],
 ) -> Result<Option<AudienceText>, LineFault>
     requires { AreOf schema.now names.old }
-    ensures audience { result ≡ audience_told schema.now text.now }
+    ensures circle { result ≡ told (circle_by schema.now text.now) }
     ensures declared { IfOk result (λ audience. IfSome audience (IsDeclaredAudience schema.now)) }
     ensures names { AreOf schema.now names.new }
 {
-    if text == b"public".as_slice() {
-        return Ok(Some(AudienceText::Public));
-    }
-    if text == b"only".as_slice() {
-        return Ok(Some(AudienceText::Only));
-    }
-    let (type_name, key) = circle_of(text)?;
+    let (type_name, key) = cut_at(text, b':').ok_or(LineFault::BadLine)?;
     let number = names.circle_no(schema, type_name)?;
-    let key = word_of(key)?;
+    let key = Word::read(key).ok_or(LineFault::BadLine)?;
     match number {
         Some(number) => Ok(Some(AudienceText::Circle(number, key))),
         None => Ok(None),
@@ -42,31 +79,17 @@ pub(crate) fn read_audience(
 }
 
 // `until PUBLISH` or nothing, at the end of an edge. None is 0.
-pub(crate) fn read_until(schema: &Schema, mut fields: Fields<'_>) -> Result<u64, LineFault>
+pub(crate) fn read_until(schema: &Schema, fields: &mut LineFields<'_>) -> Result<u64, LineFault>
     ensures { result ≡ told (option_map (λ until. unwrap_or until 0)
-        (until_in schema.now.format fields.entry)) }
+        (until_in schema.now.format fields.old)) }
 {
-    let Some(word) = fields.next() else {
+    if fields.is_end() {
         return Ok(0);
-    };
-    let number = next_of(&mut fields)?;
-    end_of(fields)?;
-    if schema.format() == 2 && word == b"until".as_slice() {
-        number_of(number, 1, LAST_UNTIL)
-    } else {
-        Err(LineFault::BadLine)
     }
-}
-
-// The name and the key of a circle, which are all of the text after `in:`.
-fn circle_of(text: &[u8]) -> Result<(&[u8], &[u8]), LineFault>
-    ensures { MatchResult result
-        (λ parts. circle_parts text.now ≡ Some (parts.0.now, parts.1.now))
-        (λ fault. (circle_parts text.now ≡ None) × (fault ≡ BadLine)) }
-{
-    let (front, rest) = cut_at(text, b':').ok_or(LineFault::BadLine)?;
-    if front != b"in".as_slice() {
+    if schema.format() != 2 || !fields.take_word(b"until") {
         return Err(LineFault::BadLine);
     }
-    cut_at(rest, b':').ok_or(LineFault::BadLine)
+    let until = fields.number(1, LAST_UNTIL)?;
+    fields.end()?;
+    Ok(until)
 }

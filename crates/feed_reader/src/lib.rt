@@ -5,7 +5,7 @@
 mod audience;
 pub mod examples;
 mod fault;
-mod field;
+mod fields;
 pub mod laws;
 mod line;
 mod names;

@@ -1,10 +1,12 @@
-ghost use Rattle.std.specs.Prelude.{◌≡◌, ◌<◌, Some, None, Ok, Err, length, IfOk, IfSome, if◌then◌else◌};
-ghost use Rattle.feed_reader.specs.Names.{AreOf, IsFoundBy, last_number};
-ghost use Rattle.feed_reader.specs.Parts.{number_told, told};
+ghost use Rattle.std.specs.Prelude.{◌≡◌, ◌<◌, Some, None, Ok, Err, length, IfOk, IfSome, MatchOption};
+ghost use Rattle.feed_reader.specs.Fields.{TakesAs, number_by};
+ghost use Rattle.feed_reader.specs.Names.{AreOf, IsFoundBy, IsLast, IsLastBefore};
+ghost use Rattle.feed_reader.specs.Parts.{told};
 ghost use Rattle.uni_schema.specs.Schema.{Declarations, vertical_no, type_no};
 ghost use Rattle.uni_schema.specs.Lines.{name_of};
 
 use crate::LineFault;
+use crate::fields::LineFields;
 use uni_base::Word;
 use uni_schema::Schema;
 
@@ -36,22 +38,23 @@ impl LastNames {
         }
     }
 
-    /// The number of a vertical by its name. None where it is not declared; a fault where the text is no name.
+    /// The number of a vertical by its name, which is the next field. None where it is not declared; a fault
+    /// where the field is no name.
     pub(crate) fn vertical_no(
         &mut self,
         schema: &Schema,
-        text: &[u8],
+        fields: &mut LineFields<'_>,
     ) -> Result<Option<u16>, LineFault>
         requires { AreOf schema.now self.old }
-        ensures number { result ≡ number_told (vertical_no schema.now) text.now }
+        ensures number { TakesAs (number_by (vertical_no schema.now)) fields.old fields.new result }
         ensures within { IfOk result (λ number.
             IfSome number (λ n. n < length schema.now.verticals)) }
         ensures kept { AreOf schema.now self.new }
     {
-        if let Some(number) = last_number(&self.vertical, text) {
+        if let Some(number) = take_last(&self.vertical, fields) {
             return Ok(Some(number));
         }
-        let name = name_of(text)?;
+        let name = name_of(fields.next()?)?;
         let Some(number) = schema.vertical_no(&name) else {
             return Ok(None);
         };
@@ -60,24 +63,44 @@ impl LastNames {
     }
 
     /// The number of the type of an edge by its name, likewise.
-    pub(crate) fn type_no(&mut self, schema: &Schema, text: &[u8]) -> Result<Option<u16>, LineFault>
+    pub(crate) fn type_no(
+        &mut self,
+        schema: &Schema,
+        fields: &mut LineFields<'_>,
+    ) -> Result<Option<u16>, LineFault>
         requires { AreOf schema.now self.old }
-        ensures number { result ≡ number_told (type_no schema.now) text.now }
+        ensures number { TakesAs (number_by (type_no schema.now)) fields.old fields.new result }
         ensures within { IfOk result (λ number.
             IfSome number (λ n. n < length schema.now.types)) }
         ensures kept { AreOf schema.now self.new }
     {
-        type_by(&mut self.edge_type, schema, text)
+        if let Some(number) = take_last(&self.edge_type, fields) {
+            return Ok(Some(number));
+        }
+        type_by(&mut self.edge_type, schema, fields.next()?)
     }
 
-    /// The number of the type of a circle by its name, likewise.
+    /// The number of the last circle's type, if its name and a colon begin the next field. They are then
+    /// taken off it.
+    pub(crate) fn take_circle(&self, fields: &mut LineFields<'_>) -> Option<u16>
+        ensures { MatchOption result (fields.new ≡ fields.old)
+            (λ number. IsLastBefore self.now.circle fields.old fields.new number) }
+    {
+        match &self.circle {
+            Some(found) if fields.take_front(found.name.bytes()) => Some(found.number),
+            _ => None,
+        }
+    }
+
+    /// The number of the type of a circle by its name. None where it is not declared; a fault where the
+    /// text is no name.
     pub(crate) fn circle_no(
         &mut self,
         schema: &Schema,
         text: &[u8],
     ) -> Result<Option<u16>, LineFault>
         requires { AreOf schema.now self.old }
-        ensures number { result ≡ number_told (type_no schema.now) text.now }
+        ensures number { result ≡ told (number_by (type_no schema.now) text.now) }
         ensures within { IfOk result (λ number.
             IfSome number (λ n. n < length schema.now.types)) }
         ensures kept { AreOf schema.now self.new }
@@ -86,17 +109,14 @@ impl LastNames {
     }
 }
 
-// The number of a type by its name, which is asked of the last one first.
+// The number of a type by its name, which becomes the last one.
 fn type_by(last: &mut Option<Found>, schema: &Schema, text: &[u8]) -> Result<Option<u16>, LineFault>
     requires { IsFoundBy (type_no schema.now) last.old }
-    ensures number { result ≡ number_told (type_no schema.now) text.now }
+    ensures number { result ≡ told (number_by (type_no schema.now) text.now) }
     ensures within { IfOk result (λ number.
         IfSome number (λ n. n < length schema.now.types)) }
     ensures kept { IsFoundBy (type_no schema.now) last.new }
 {
-    if let Some(number) = last_number(last, text) {
-        return Ok(Some(number));
-    }
     let name = name_of(text)?;
     let Some(number) = schema.type_no(&name) else {
         return Ok(None);
@@ -105,12 +125,13 @@ fn type_by(last: &mut Option<Found>, schema: &Schema, text: &[u8]) -> Result<Opt
     Ok(Some(number))
 }
 
-// The number of the last name, if that is the text.
-fn last_number(last: &Option<Found>, text: &[u8]) -> Option<u16>
-    ensures { result ≡ last_number last.now text.now }
+// The number of the last name, if that is the next field, which is then taken.
+fn take_last(last: &Option<Found>, fields: &mut LineFields<'_>) -> Option<u16>
+    ensures { MatchOption result (fields.new ≡ fields.old)
+        (λ number. IsLast last.now fields.old fields.new number) }
 {
     match last {
-        Some(found) if found.name.bytes() == text => Some(found.number),
+        Some(found) if fields.take_word(found.name.bytes()) => Some(found.number),
         _ => None,
     }
 }

@@ -1,41 +1,56 @@
-ghost use Rattle.std.specs.Prelude.{◌≡◌, ◌≤◌, ◌-◌, IfSome, Some, None, length, if◌then◌else◌};
-ghost use Rattle.uni_base.specs.Numbers.{number_between, number_of};
+ghost use Rattle.std.specs.Prelude.{◌≡◌, ◌≤◌, ◌-◌, true, IfSome, Some, None, length, if◌then◌else◌};
+ghost use Rattle.std.specs.List.{list_all};
+ghost use Rattle.std.specs.Str.Parse.{digits_value};
+ghost use Rattle.uni_base.specs.Numbers.{number_between};
 ghost use Rattle.uni_base.specs.Words.{is_digit};
-
-use uni_base::read_between;
+ghost use Rattle.feed_reader.specs.Digits.{AreLeading};
 
 /// The most digits that are read in 64 bits: no number of so many comes to 2^64.
-const SHORT: usize = 19;
+pub(crate) const SHORT: usize = 19;
 
-/// The number from `low` to `high` that a text writes. One of at most 19 digits is read in 64 bits.
-pub(crate) fn number_between(text: &[u8], low: u64, high: u64) -> Option<u64>
-    ensures number { result ≡ number_between low high text.now }
-    ensures within { IfSome result (λ n. (low ≤ n) × (n ≤ high)) }
+/// Digits at the front of a text, and the number that they write.
+#[derive(Clone, Copy)]
+pub(crate) struct Digits {
+    pub(crate) count: usize,
+    pub(crate) value: u64,
+}
+
+/// All digits at the front of a text, or the first 19.
+pub(crate) fn leading_digits(text: &[u8]) -> Digits
+    ensures { AreLeading text.now result }
 {
-    if text.len() > SHORT {
-        return read_between(text, low, high);
+    let mut value: u64 = 0;
+    for (count, byte) in text.iter().enumerate() {
+        if count == SHORT {
+            return Digits { count, value };
+        }
+        match digit(*byte) {
+            Some(digit) => value = value * 10 + digit as u64,
+            None => return Digits { count, value },
+        }
     }
-    let number = short_number(text)?;
-    if low <= number && number <= high {
-        Some(number)
-    } else {
-        None
+    Digits {
+        count: text.len(),
+        value,
     }
 }
 
-// The number that a short text writes.
-fn short_number(text: &[u8]) -> Option<u64>
-    requires { length text.now ≤ 19 }
-    ensures { result ≡ number_of text.now }
+/// The number from `low` to `high` that a field of digits writes, by its value.
+pub(crate) fn number_written(field: &[u8], value: u64, low: u64, high: u64) -> Option<u64>
+    requires few { length field.now ≤ 19 }
+    requires digits { list_all is_digit field.now ≡ true }
+    requires value { value ≡ digits_value 10 field.now }
+    ensures number { result ≡ number_between low high field.now }
+    ensures within { IfSome result (λ n. (low ≤ n) × (n ≤ high)) }
 {
-    if text.is_empty() || (text[0] == b'0' && text.len() > 1) {
+    if field.is_empty() || (field[0] == b'0' && field.len() > 1) {
         return None;
     }
-    let mut value: u64 = 0;
-    for byte in text {
-        value = value * 10 + digit(*byte)? as u64;
+    if low <= value && value <= high {
+        Some(value)
+    } else {
+        None
     }
-    Some(value)
 }
 
 fn digit(byte: u8) -> Option<u8>

@@ -1,16 +1,15 @@
-ghost use Rattle.std.specs.Prelude.{◌≡◌, ◌↔◌, Some, None, Result, MatchResult, IfOk};
-ghost use Rattle.feed_reader.specs.FeedText.{ReadsAs, gone_line};
+ghost use Rattle.std.specs.Prelude.{◌≡◌, ◌↔◌, Result, IfOk};
+ghost use Rattle.feed_reader.specs.FeedText.{ReadsAs};
 ghost use Rattle.feed_reader.specs.Printing.{HasUntil, LineIsDeclared};
 ghost use Rattle.feed_reader.specs.Names.{AreOf};
 ghost use Rattle.feed_reader.specs.Reading.{answer, cut_in, edge_in, entity_in, feed_line_of, gone_in, written_in};
 ghost use Rattle.feed_reader.specs.declared.line.FeedLine.{FeedLine};
 ghost use Rattle.feed_reader.specs.declared.fault.LineFault.{LineFault};
-ghost use Rattle.feed_reader.specs.declared.fault.LineFault.TheVariants.{BadLine};
 
 use crate::audience::{read_audience, read_until};
-use crate::field::{end_of, id_of, next_of, number_of, word_of};
+use crate::fields::LineFields;
 use crate::{FeedLine, LastNames, LineFault};
-use uni_base::{EntityId, Fields, Rank};
+use uni_base::Rank;
 use uni_schema::Schema;
 use uni_table::Command;
 
@@ -41,14 +40,14 @@ pub fn read_next_feed_line(
     ensures until { IfOk result (HasUntil schema.now) }
     ensures names { AreOf schema.now names.new }
 {
-    read_fields(schema, names, Fields::of(line))
+    read_fields(schema, names, LineFields::of(line))
 }
 
 // What fields write, by the first of them.
 fn read_fields(
     schema: &Schema,
     names: &mut LastNames,
-    mut fields: Fields<'_>,
+    mut fields: LineFields<'_>,
 ) -> Result<FeedLine, LineFault>
     requires { AreOf schema.now names.old }
     ensures line { result ≡ answer schema.now (written_in schema.now.format fields.entry) }
@@ -56,29 +55,30 @@ fn read_fields(
     ensures until { IfOk result (HasUntil schema.now) }
     ensures names { AreOf schema.now names.new }
 {
-    let word = next_of(&mut fields)?;
-    if word == b"edge".as_slice() {
-        read_edge(schema, names, fields)
-    } else if word == b"entity".as_slice() {
-        read_entity(schema, names, fields)
-    } else if word == b"cut".as_slice() {
-        read_cut(schema, names, fields)
-    } else if word == b"gone".as_slice() {
-        let id = read_gone(fields)?;
-        Ok(FeedLine::Change(Command::Gone { id }))
-    } else if word == b"publish".as_slice() {
-        end_of(fields)?;
-        Ok(FeedLine::Publish)
-    } else {
-        Err(LineFault::BadLine)
+    if fields.take_word(b"edge") {
+        return read_edge(schema, names, fields);
     }
+    if fields.take_word(b"entity") {
+        return read_entity(schema, names, fields);
+    }
+    if fields.take_word(b"cut") {
+        return read_cut(schema, names, fields);
+    }
+    if fields.take_word(b"gone") {
+        return read_gone(schema, fields);
+    }
+    if fields.take_word(b"publish") {
+        fields.end()?;
+        return Ok(FeedLine::Publish);
+    }
+    Err(LineFault::BadLine)
 }
 
 // `entity VERTICAL ID RANK`, after its first word
 fn read_entity(
     schema: &Schema,
     names: &mut LastNames,
-    mut fields: Fields<'_>,
+    mut fields: LineFields<'_>,
 ) -> Result<FeedLine, LineFault>
     requires { AreOf schema.now names.old }
     ensures line { result ≡ answer schema.now (entity_in fields.entry) }
@@ -86,36 +86,34 @@ fn read_entity(
     ensures until { IfOk result (HasUntil schema.now) }
     ensures names { AreOf schema.now names.new }
 {
-    let vertical = names.vertical_no(schema, next_of(&mut fields)?)?;
-    let id = id_of(next_of(&mut fields)?)?;
-    let rank = number_of(next_of(&mut fields)?, 0, u32::MAX as u64)?;
-    end_of(fields)?;
-    match vertical {
-        Some(vertical) => Ok(FeedLine::Change(Command::Entity {
-            vertical,
-            id,
-            rank: Rank(rank as u32),
-        })),
-        None => Err(LineFault::UnknownName),
-    }
+    let vertical = names.vertical_no(schema, &mut fields)?;
+    let id = fields.id()?;
+    let rank = fields.number(0, u32::MAX as u64)?;
+    fields.end()?;
+    let vertical = vertical.ok_or(LineFault::UnknownName)?;
+    Ok(FeedLine::Change(Command::Entity {
+        vertical,
+        id,
+        rank: Rank(rank as u32),
+    }))
 }
 
-// The id of `gone ID`, after its first word
-fn read_gone(mut fields: Fields<'_>) -> Result<EntityId, LineFault>
-    ensures { MatchResult result
-        (λ id. gone_in fields.entry ≡ Some (gone_line id))
-        (λ fault. (gone_in fields.entry ≡ None) × (fault ≡ BadLine)) }
+// `gone ID`, after its first word
+fn read_gone(schema: &Schema, mut fields: LineFields<'_>) -> Result<FeedLine, LineFault>
+    ensures line { result ≡ answer schema.now (gone_in fields.entry) }
+    ensures declared { IfOk result (LineIsDeclared schema.now) }
+    ensures until { IfOk result (HasUntil schema.now) }
 {
-    let id = id_of(next_of(&mut fields)?)?;
-    end_of(fields)?;
-    Ok(id)
+    let id = fields.id()?;
+    fields.end()?;
+    Ok(FeedLine::Change(Command::Gone { id }))
 }
 
 // `edge TYPE KEY TARGET AUDIENCE`, in format 2 also with `until PUBLISH`, after its first word
 fn read_edge(
     schema: &Schema,
     names: &mut LastNames,
-    mut fields: Fields<'_>,
+    mut fields: LineFields<'_>,
 ) -> Result<FeedLine, LineFault>
     requires { AreOf schema.now names.old }
     ensures line { result ≡ answer schema.now (edge_in schema.now.format fields.entry) }
@@ -123,28 +121,27 @@ fn read_edge(
     ensures until { IfOk result (HasUntil schema.now) }
     ensures names { AreOf schema.now names.new }
 {
-    let type_no = names.type_no(schema, next_of(&mut fields)?)?;
-    let key = word_of(next_of(&mut fields)?)?;
-    let target = id_of(next_of(&mut fields)?)?;
-    let audience = read_audience(schema, names, next_of(&mut fields)?)?;
-    let until = read_until(schema, fields)?;
-    match (type_no, audience) {
-        (Some(type_no), Some(audience)) => Ok(FeedLine::Change(Command::Edge {
-            type_no,
-            key,
-            target,
-            audience,
-            until,
-        })),
-        _ => Err(LineFault::UnknownName),
-    }
+    let type_no = names.type_no(schema, &mut fields)?;
+    let key = fields.word()?;
+    let target = fields.id()?;
+    let audience = read_audience(schema, names, &mut fields)?;
+    let until = read_until(schema, &mut fields)?;
+    let type_no = type_no.ok_or(LineFault::UnknownName)?;
+    let audience = audience.ok_or(LineFault::UnknownName)?;
+    Ok(FeedLine::Change(Command::Edge {
+        type_no,
+        key,
+        target,
+        audience,
+        until,
+    }))
 }
 
 // `cut TYPE KEY TARGET`, after its first word
 fn read_cut(
     schema: &Schema,
     names: &mut LastNames,
-    mut fields: Fields<'_>,
+    mut fields: LineFields<'_>,
 ) -> Result<FeedLine, LineFault>
     requires { AreOf schema.now names.old }
     ensures line { result ≡ answer schema.now (cut_in fields.entry) }
@@ -152,16 +149,14 @@ fn read_cut(
     ensures until { IfOk result (HasUntil schema.now) }
     ensures names { AreOf schema.now names.new }
 {
-    let type_no = names.type_no(schema, next_of(&mut fields)?)?;
-    let key = word_of(next_of(&mut fields)?)?;
-    let target = id_of(next_of(&mut fields)?)?;
-    end_of(fields)?;
-    match type_no {
-        Some(type_no) => Ok(FeedLine::Change(Command::Cut {
-            type_no,
-            key,
-            target,
-        })),
-        None => Err(LineFault::UnknownName),
-    }
+    let type_no = names.type_no(schema, &mut fields)?;
+    let key = fields.word()?;
+    let target = fields.id()?;
+    fields.end()?;
+    let type_no = type_no.ok_or(LineFault::UnknownName)?;
+    Ok(FeedLine::Change(Command::Cut {
+        type_no,
+        key,
+        target,
+    }))
 }

@@ -5,5 +5,5 @@ use Rattle.feed_reader.proofs.read.read_cut.Goals as goal
 
 pub returns-in_err-target-clause-line : goal.returns-in_err-target-clause-line
 returns-in_err-target-clause-line c =
-    let none = cut_target c.in_ok-next_of.field-0.now c.in_ok-next_of-2.field-0.now c.in_ok-next_of-3.field-0.now c.next_of-3.new.fields in
+    let none = cut_target c.args.schema.now c.args.fields c.type_no.new.fields c.word.new.self c.in_ok-type_no.type_no c.in_ok-key.key in
     grind (arith, common_steps, none)
