@@ -100,6 +100,7 @@ impl<'a> LineFields<'a> {
     }
 
     /// The id that the next field is.
+    #[inline(always)]
     pub(crate) fn id(&mut self) -> Result<EntityId, LineFault>
         ensures { TakesAs id_of self.old self.new result }
     {
@@ -107,6 +108,7 @@ impl<'a> LineFields<'a> {
     }
 
     /// The number from `low` to `high` that the next field is.
+    #[inline(always)]
     pub(crate) fn number(&mut self, low: u64, high: u64) -> Result<u64, LineFault>
         ensures number { TakesAs (number_between low high) self.old self.new result }
         ensures within { IfOk result (λ n. (low ≤ n) × (n ≤ high)) }
@@ -125,8 +127,17 @@ impl<'a> LineFields<'a> {
                 }
             }
             None if digits.count < SHORT => Err(LineFault::BadLine),
-            None => read_between(self.next()?, low, high).ok_or(LineFault::BadLine),
+            None => self.long_number(low, high),
         }
+    }
+
+    // The number that the next field is, of any length.
+    #[inline(never)]
+    fn long_number(&mut self, low: u64, high: u64) -> Result<u64, LineFault>
+        ensures number { TakesAs (number_between low high) self.old self.new result }
+        ensures within { IfOk result (λ n. (low ≤ n) × (n ≤ high)) }
+    {
+        read_between(self.next()?, low, high).ok_or(LineFault::BadLine)
     }
 
     /// Whether no field is left.

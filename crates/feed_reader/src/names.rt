@@ -40,6 +40,7 @@ impl LastNames {
 
     /// The number of a vertical by its name, which is the next field. None where it is not declared; a fault
     /// where the field is no name.
+    #[inline(always)]
     pub(crate) fn vertical_no(
         &mut self,
         schema: &Schema,
@@ -54,15 +55,11 @@ impl LastNames {
         if let Some(number) = take_last(&self.vertical, fields) {
             return Ok(Some(number));
         }
-        let name = name_of(fields.next()?)?;
-        let Some(number) = schema.vertical_no(&name) else {
-            return Ok(None);
-        };
-        self.vertical = Some(Found { name, number });
-        Ok(Some(number))
+        vertical_by(&mut self.vertical, schema, fields.next()?)
     }
 
     /// The number of the type of an edge by its name, likewise.
+    #[inline(always)]
     pub(crate) fn type_no(
         &mut self,
         schema: &Schema,
@@ -109,7 +106,29 @@ impl LastNames {
     }
 }
 
+// The number of a vertical by its name, which becomes the last one.
+#[inline(never)]
+fn vertical_by(
+    last: &mut Option<Found>,
+    schema: &Schema,
+    text: &[u8],
+) -> Result<Option<u16>, LineFault>
+    requires { IsFoundBy (vertical_no schema.now) last.old }
+    ensures number { result ≡ told (number_by (vertical_no schema.now) text.now) }
+    ensures within { IfOk result (λ number.
+        IfSome number (λ n. n < length schema.now.verticals)) }
+    ensures kept { IsFoundBy (vertical_no schema.now) last.new }
+{
+    let name = name_of(text)?;
+    let Some(number) = schema.vertical_no(&name) else {
+        return Ok(None);
+    };
+    *last = Some(Found { name, number });
+    Ok(Some(number))
+}
+
 // The number of a type by its name, which becomes the last one.
+#[inline(never)]
 fn type_by(last: &mut Option<Found>, schema: &Schema, text: &[u8]) -> Result<Option<u16>, LineFault>
     requires { IsFoundBy (type_no schema.now) last.old }
     ensures number { result ≡ told (number_by (type_no schema.now) text.now) }
@@ -126,6 +145,7 @@ fn type_by(last: &mut Option<Found>, schema: &Schema, text: &[u8]) -> Result<Opt
 }
 
 // The number of the last name, if that is the next field, which is then taken.
+#[inline(always)]
 fn take_last(last: &Option<Found>, fields: &mut LineFields<'_>) -> Option<u16>
     ensures { MatchOption result (fields.new ≡ fields.old)
         (λ number. IsLast last.now fields.old fields.new number) }

@@ -16,6 +16,7 @@ pub(crate) struct Digits {
 }
 
 /// All digits at the front of a text, or the first 19.
+#[inline(always)]
 pub(crate) fn leading_digits(text: &[u8]) -> Digits
     ensures { AreLeading text.now result }
 {
@@ -36,6 +37,7 @@ pub(crate) fn leading_digits(text: &[u8]) -> Digits
 }
 
 /// The number from `low` to `high` that a field of digits writes, by its value.
+#[inline(always)]
 pub(crate) fn number_written(field: &[u8], value: u64, low: u64, high: u64) -> Option<u64>
     requires few { length field.now ≤ 19 }
     requires digits { list_all is_digit field.now ≡ true }

@@ -40,21 +40,7 @@ pub fn read_next_feed_line(
     ensures until { IfOk result (HasUntil schema.now) }
     ensures names { AreOf schema.now names.new }
 {
-    read_fields(schema, names, LineFields::of(line))
-}
-
-// What fields write, by the first of them.
-fn read_fields(
-    schema: &Schema,
-    names: &mut LastNames,
-    mut fields: LineFields<'_>,
-) -> Result<FeedLine, LineFault>
-    requires { AreOf schema.now names.old }
-    ensures line { result ≡ answer schema.now (written_in schema.now.format fields.entry) }
-    ensures declared { IfOk result (LineIsDeclared schema.now) }
-    ensures until { IfOk result (HasUntil schema.now) }
-    ensures names { AreOf schema.now names.new }
-{
+    let mut fields = LineFields::of(line);
     if fields.take_word(b"edge") {
         return read_edge(schema, names, fields);
     }
@@ -75,6 +61,7 @@ fn read_fields(
 }
 
 // `entity VERTICAL ID RANK`, after its first word
+#[inline(never)]
 fn read_entity(
     schema: &Schema,
     names: &mut LastNames,
@@ -99,6 +86,7 @@ fn read_entity(
 }
 
 // `gone ID`, after its first word
+#[inline(never)]
 fn read_gone(schema: &Schema, mut fields: LineFields<'_>) -> Result<FeedLine, LineFault>
     ensures line { result ≡ answer schema.now (gone_in fields.entry) }
     ensures declared { IfOk result (LineIsDeclared schema.now) }
@@ -110,6 +98,7 @@ fn read_gone(schema: &Schema, mut fields: LineFields<'_>) -> Result<FeedLine, Li
 }
 
 // `edge TYPE KEY TARGET AUDIENCE`, in format 2 also with `until PUBLISH`, after its first word
+#[inline(never)]
 fn read_edge(
     schema: &Schema,
     names: &mut LastNames,
@@ -138,6 +127,7 @@ fn read_edge(
 }
 
 // `cut TYPE KEY TARGET`, after its first word
+#[inline(never)]
 fn read_cut(
     schema: &Schema,
     names: &mut LastNames,
