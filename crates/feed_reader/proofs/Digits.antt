@@ -1,10 +1,10 @@
 -- One more digit of a number.
-use Rattle.std.proofs.Common.{◌≡◌, ℕ, ◌+◌, ◌-◌, ◌*◌, ◌<◌, ◌≤◌, ◌^◌, true, false, ◌&&◌, List, length, take, get_or, Some, None, if◌then◌else◌, ◌∙◌, ap, sym, arith, add-one}
+use Rattle.std.proofs.Common.{◌≡◌, ℕ, ◌+◌, ◌-◌, ◌*◌, ◌<◌, ◌≤◌, ◌^◌, true, ◌&&◌, List, length, take, get_or, Some, None, if◌then◌else◌, ◌∙◌, ap, sym, arith, add-one}
 use Rattle.std.specs.List.{list_all}
 use Rattle.std.specs.Str.Parse.{digits_value}
 use Rattle.std.specs.Char.{digit_value}
 use Rattle.std.proofs.lemmas.Int.Digits.{digits_value_more}
-use Rattle.std.proofs.lemmas.List.Folds.{list_all_more, list_all_at}
+use Rattle.std.proofs.lemmas.List.Folds.{list_all_more}
 use Rattle.std.proofs.lemmas.Bool.Decides.{nat_tests}
 use Rattle.std.proofs.Math.Nat.{pow-suc, pow-le-pow_right}
 use Rattle.uni_base.specs.Words.{is_digit}
@@ -29,10 +29,6 @@ digits_more text i h here so =
 -- and its bound
 pub small_more : (value digit i : ℕ) → value < 10 ^ i → digit ≤ 9 → value * 10 + digit < 10 ^ (i + 1)
 small_more value digit i h d = rw add-one (omega (arith, pow-suc 10 i))
-
--- a number that does not read has a byte that is no digit
-pub not_all : (text : List ℕ) (i : ℕ) → i < length text → is_digit (get_or text i 0) ≡ false → list_all is_digit text ≡ false
-not_all text i h e = list_all_at is_digit text i 0 h e
 
 -- a number of fewer than 19 digits has room for one more
 pub roomy : (value i n : ℕ) → i < n → n ≤ 19 → value < 10 ^ i → value < 10 ^ 18

@@ -121,10 +121,7 @@ impl<'a> LineFields<'a> {
             Some(rest) => {
                 let field = &text[..digits.count];
                 *self = rest;
-                match number_written(field, digits.value, low, high) {
-                    Some(number) => Ok(number),
-                    None => Err(LineFault::BadLine),
-                }
+                number_written(field, digits.value, low, high).ok_or(LineFault::BadLine)
             }
             None if digits.count < SHORT => Err(LineFault::BadLine),
             None => self.long_number(low, high),

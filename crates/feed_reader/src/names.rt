@@ -106,7 +106,8 @@ impl LastNames {
     }
 }
 
-// The number of a vertical by its name, which becomes the last one.
+// The number of a vertical by its name, which becomes the last one. Not inlined, so that the readers of
+// names stay small.
 #[inline(never)]
 fn vertical_by(
     last: &mut Option<Found>,

@@ -60,7 +60,8 @@ pub fn read_next_feed_line(
     Err(LineFault::BadLine)
 }
 
-// `entity VERTICAL ID RANK`, after its first word
+// `entity VERTICAL ID RANK`, after its first word. The readers of the forms are not inlined, since then
+// each change would be moved once more.
 #[inline(never)]
 fn read_entity(
     schema: &Schema,

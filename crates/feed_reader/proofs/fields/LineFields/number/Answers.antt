@@ -6,10 +6,9 @@ use Rattle.uni_base.specs.Numbers.{number_between}
 use Rattle.feed_reader.specs.Fields.{first_as}
 use Rattle.feed_reader.proofs.FrontNumbers.{after_is, number_taken, number_goes_on}
 use Rattle.feed_reader.proofs.fields.LineFields.number.Goals as goal
-use Rattle.feed_reader.proofs.fields.LineFields.number.Goals.{in-Some-number_written, in-None-number_written}
 
-pub returns-after-number_written-clause-number : goal.returns-after-number_written-clause-number
-returns-after-number_written-clause-number c =
+pub returns-in-Some-fields_after-clause-number : goal.returns-in-Some-fields_after-clause-number
+returns-in-Some-fields_after-clause-number c =
     let text = c.in-Some.text.now in
     let digits = c.leading_digits-digits in
     let self_is : c.args.self.now ≡ fields_of text =
@@ -18,10 +17,8 @@ returns-after-number_written-clause-number c =
     rw (← after_is text digits.result.count) c.in-Some-fields_after.ensures in
     let taken = number_taken c.args.low c.args.high text digits.result.count c.number_written.result c.in-Some-fields_after.rest
     digits.ensures.all ends (sym c.number_written.ensures.number) in
-    elim c.match-number_written.branch [
-      | in-Some-number_written w ↦ grind (arith, common_steps, taken, self_is)
-      | in-None-number_written w ↦ grind (arith, common_steps, taken, self_is)
-    ]
+    let told = c.ok_or.ensures.value in
+    grind (arith, common_steps, taken, self_is)
 
 pub returns-in-None-clause-number : goal.returns-in-None-clause-number
 returns-in-None-clause-number c = (
