@@ -60,9 +60,7 @@ pub fn read_next_feed_line(
     Err(LineFault::BadLine)
 }
 
-// `entity VERTICAL ID RANK`, after its first word. The readers of the forms are not inlined, since then
-// each change would be moved once more.
-#[inline(never)]
+// `entity VERTICAL ID RANK`, after its first word
 fn read_entity(
     schema: &Schema,
     names: &mut LastNames,
@@ -87,7 +85,6 @@ fn read_entity(
 }
 
 // `gone ID`, after its first word
-#[inline(never)]
 fn read_gone(schema: &Schema, mut fields: LineFields<'_>) -> Result<FeedLine, LineFault>
     ensures line { result ≡ answer schema.now (gone_in fields.entry) }
     ensures declared { IfOk result (LineIsDeclared schema.now) }
@@ -99,7 +96,6 @@ fn read_gone(schema: &Schema, mut fields: LineFields<'_>) -> Result<FeedLine, Li
 }
 
 // `edge TYPE KEY TARGET AUDIENCE`, in format 2 also with `until PUBLISH`, after its first word
-#[inline(never)]
 fn read_edge(
     schema: &Schema,
     names: &mut LastNames,
@@ -128,7 +124,6 @@ fn read_edge(
 }
 
 // `cut TYPE KEY TARGET`, after its first word
-#[inline(never)]
 fn read_cut(
     schema: &Schema,
     names: &mut LastNames,
