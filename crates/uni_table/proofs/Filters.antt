@@ -110,6 +110,11 @@ map-filter {X} {Y} f test (x ∷ xs) =
       | false ↦ map-filter f test xs
     ]
 
+-- the value, if there is one, as a list
+pub listed-option : {Y : Type 0} (o : Option Y) → Rattle.std.specs.Option.option_to_list o ≡ cons_option o []
+listed-option None = refl
+listed-option (Some y) = refl
+
 -- one item more
 pub filter_map-more : {X Y : Type 0} (f : X → Option Y) (xs : List X) (i : ℕ) (x : X) (o : Option Y) → i < length xs → x ≡ get_or xs i x → f x ≡ o
     → filter_map f (take (i + 1) xs) ≡ filter_map f (take i xs) ++ cons_option o []

@@ -24,12 +24,13 @@ use Rattle.uni_base.specs.EdgeOrder.{edge_cmp}
 use Rattle.uni_base.specs.declared.edge.EdgeRef.{EdgeRef}
 use Rattle.uni_table.specs.Contents.{Contents, with_edge}
 use Rattle.uni_table.specs.GraphKeys.{source_eq, edge_total, exact_edges}
-use Rattle.uni_table.specs.GraphRows.{IsRows, IsKnown, IsCircleKnown, IsNoted, audience_named, edge_named, row_of, slot_named, slots_named, node_named, contents_of, is_entity, is_live, last_at, next_at, no_at, has_at, end_cmp, with_edge_row, circle_named, source_named}
+use Rattle.uni_table.specs.GraphRows.{IsRows, AreTouched, IsBeforeKnown, published_of, slot_before, node_before, is_same, is_same_entity, IsKnown, IsCircleKnown, IsNoted, audience_named, edge_named, row_of, slot_named, slots_named, node_named, contents_of, is_entity, is_live, last_at, next_at, no_at, has_at, end_cmp, with_edge_row, circle_named, source_named}
 use Rattle.uni_table.specs.declared.command.EdgeRow.{EdgeRow}
 use Rattle.uni_table.specs.declared.graph.numbers.Source.{Source}
 use Rattle.uni_table.specs.declared.graph.numbers.Node.{Node}
 use Rattle.uni_table.specs.declared.graph.numbers.EdgeNo.{EdgeNo}
 use Rattle.uni_table.specs.declared.graph.numbers.Slot.{Slot}
+use Rattle.uni_table.specs.declared.graph.numbers.Before.TheVariants as before
 use Rattle.uni_table.specs.declared.graph.numbers.SlotState.{SlotState}
 use Rattle.uni_table.specs.declared.graph.numbers.SlotState.TheVariants.{Gone, Public, Only, Circle}
 use Rattle.uni_table.specs.declared.graph.numbers.Side.{Side}
@@ -37,6 +38,8 @@ use Rattle.uni_table.specs.declared.graph.numbers.Side.TheVariants.{Target, Sour
 use Rattle.uni_table.specs.declared.graph.rows.Rows.{Rows}
 use Rattle.uni_table.proofs.GraphNames.{edge_no_eq}
 use Rattle.uni_table.proofs.GraphPlaces.{read-set, same-number}
+use Rattle.uni_table.proofs.Published.{made-then, nodes-led}
+use Rattle.uni_table.proofs.TouchedRows.{touched-beside, touched-made, touched-room}
 
 -- numbers that name an edge that never was there are none of the rows'
 pub unused-numbers : (sources : List Source) (ids : List ℕ) (n : EdgeNo) (es : List (EdgeNo × Slot)) → NonePasses (is_at (edge_cmp (edge_named sources ids n))) (map (slot_named sources ids) es) → lookup (edge_no_eq n) es ≡ None
@@ -116,18 +119,19 @@ module _ (old new : Rows) (kept : IsRows old) (n : EdgeNo) (slot : Slot) (id : �
 
   module _ (into : slot.next_into ≡ last_at Target old n.target) (from : slot.next_from ≡ last_at From old n.source) (source_below : n.source < length old.sources.entries) (target_below : n.target < length old.ids.entries)
       (circle : IsCircleKnown (length old.sources.entries) slot.state) (noted : IsNoted old slot.state slot.end (length old.edges.entries)) (live : is_live slot.state ≡ true)
-      (few : length old.edges.entries + 1 < 2 ^ 32) (count : new.edge_count ≡ old.edge_count + 1) where
+      (few : length old.edges.entries + 1 < 2 ^ 32) (count : new.edge_count ≡ old.edge_count + 1)
+      (gone : slot.before ≡ before.Gone) (places : new.touched_edges.items ≡ old.touched_edges.items ++ length old.edges.entries ∷ []) (room : old.touched_edges.cap ≤ new.touched_edges.cap) (more : length old.edges.entries + 1 ≤ new.touched_edges.cap) where
     after : Rows
-    after = record old { ids = new.ids; sources = new.sources; edges = new.edges; edge_count = new.edge_count }
+    after = record old { ids = new.ids; sources = new.sources; edges = new.edges; edge_count = new.edge_count; touched_edges = new.touched_edges }
 
     -- the rows with the edge are kept
-    pub add-kept : IsRows (record old { ids = new.ids; sources = new.sources; edges = new.edges; edge_count = new.edge_count })
+    pub add-kept : IsRows (record old { ids = new.ids; sources = new.sources; edges = new.edges; edge_count = new.edge_count; touched_edges = new.touched_edges })
     add-kept = record {
       known =
           subst (AtEach (λ i e. IsKnown (length new.sources.entries) (length new.ids.entries) e)) (sym edges)
           (subst (λ m. AtEach (λ i e. IsKnown (length new.sources.entries) m e) (old.edges.entries ++ (n, slot) ∷ [])) (sym id_count)
           (subst (λ m. AtEach (λ i e. IsKnown m (length old.ids.entries) e) (old.edges.entries ++ (n, slot) ∷ [])) (sym source_count)
-          (at_each-push (λ i e. IsKnown (length old.sources.entries) (length old.ids.entries) e) old.edges.entries (n, slot) kept.known (record { source = source_below; target = target_below; circle = circle }))));
+          (at_each-push (λ i e. IsKnown (length old.sources.entries) (length old.ids.entries) e) old.edges.entries (n, slot) kept.known (record { source = source_below; target = target_below; circle = circle; before = subst (IsBeforeKnown (length old.sources.entries)) (sym gone) tt }))));
       chains = λ side.
           subst (λ ks. AtEach (λ i e. next_at side e.1 ≡ last_no (has_at side (no_at side e.0)) (take i ks)) new.edges.entries) (sym edge_keys)
           (subst (AtEach (λ i e. next_at side e.1 ≡ last_no (has_at side (no_at side e.0)) (take i (keys_of old.edges.entries ++ n ∷ [])))) (sym edges)
@@ -149,6 +153,14 @@ module _ (old new : Rows) (kept : IsRows old) (n : EdgeNo) (slot : Slot) (id : �
       ended =
           subst (AtEach (λ i e. is_live e.1.state ≡ true → 0 < e.1.end → contains end_cmp old.ends (e.1.end, i + 1) ≡ true)) (sym edges)
           (at_each-push (λ i e. is_live e.1.state ≡ true → 0 < e.1.end → contains end_cmp old.ends (e.1.end, i + 1) ≡ true) old.edges.entries (n, slot) kept.ended noted);
+      touched_ids =
+          subst (λ es. AreTouched (λ m. is_same_entity m.before) es old.touched_ids.items old.touched_ids.cap) (sym ids)
+          (touched-beside (λ m. is_same_entity m.before) old.ids.entries old.touched_ids.items old.touched_ids.cap kept.touched_ids n.target id node (record node { last_edge = length old.edges.entries + 1 }) at_target refl);
+      touched_edges =
+          subst (λ es. AreTouched (λ s. is_same s.before) es new.touched_edges.items new.touched_edges.cap) (sym edges)
+          (subst (λ ps. AreTouched (λ s. is_same s.before) (old.edges.entries ++ (n, slot) ∷ []) ps new.touched_edges.cap) (sym places)
+          (touched-made (λ s. is_same s.before) old.edges.entries old.touched_edges.items new.touched_edges.cap
+          (touched-room (λ s. is_same s.before) old.edges.entries old.touched_edges.items old.touched_edges.cap kept.touched_edges new.touched_edges.cap room) n slot (ap is_same gone) more));
     }
       where
         first : (side : Side) → next_at side slot ≡ last_at side old (no_at side n)
@@ -163,7 +175,7 @@ module _ (old new : Rows) (kept : IsRows old) (n : EdgeNo) (slot : Slot) (id : �
             take-append-le (length old.edges.entries) (keys_of old.edges.entries) (n ∷ []) (omega (arith, length-keys_of old.edges.entries))
             ∙ Rattle.std.proofs.lemmas.List.take_all (length old.edges.entries) (keys_of old.edges.entries) (omega (arith, length-keys_of old.edges.entries))
 
-        ends : (side : Side) (q : ℕ) → last_at side (record old { ids = new.ids; sources = new.sources; edges = new.edges; edge_count = new.edge_count }) q ≡ (if has_at side q n then length old.edges.entries + 1 else last_at side old q)
+        ends : (side : Side) (q : ℕ) → last_at side (record old { ids = new.ids; sources = new.sources; edges = new.edges; edge_count = new.edge_count; touched_edges = new.touched_edges }) q ≡ (if has_at side q n then length old.edges.entries + 1 else last_at side old q)
         ends Target q =
             ap (λ es. option_map_or (λ e. e.1.last_edge) (slice_get es q) 0) ids
             ∙ read-set (λ e. e.1.last_edge) old.ids.entries n.target id node (record node { last_edge = length old.edges.entries + 1 }) at_target q
@@ -171,9 +183,21 @@ module _ (old new : Rows) (kept : IsRows old) (n : EdgeNo) (slot : Slot) (id : �
             ap (λ es. option_map_or (λ e. e.1) (slice_get es q) 0) sources
             ∙ read-set (λ e. e.1) old.sources.entries n.source source last (length old.edges.entries + 1) at_source q
 
+  -- and were at the last publish what they were
+  pub add-then : slot.before ≡ before.Gone → published_of (record old { ids = new.ids; sources = new.sources; edges = new.edges; edge_count = new.edge_count; touched_edges = new.touched_edges }) ≡ published_of old
+  add-then gone = λ j. record { entities = entities j; edges = all j }
+    where
+      entities : ordered nat_cmp (map node_before new.ids.entries) ≡ (published_of old).entities
+      entities = ap (λ es. ordered nat_cmp (map node_before es)) ids ∙ ap (ordered nat_cmp) (nodes-led old.ids.entries n.target id (length old.edges.entries + 1) node at_target)
+
+      all : ordered edge_cmp (map (slot_before (keys_of new.sources.entries) (keys_of new.ids.entries)) new.edges.entries) ≡ (published_of old).edges
+      all =
+          (λ j. ordered edge_cmp (map (slot_before (source_keys j) (id_keys j)) (edges j)))
+          ∙ made-then old.edges.entries (keys_of old.sources.entries) (keys_of old.ids.entries) n slot gone
+
   -- and stand for the contents with it
   pub add-set : (row : EdgeRow) → row_of (keys_of old.sources.entries) slot.state slot.end ≡ Some row
-      → contents_of (record old { ids = new.ids; sources = new.sources; edges = new.edges; edge_count = new.edge_count })
+      → contents_of (record old { ids = new.ids; sources = new.sources; edges = new.edges; edge_count = new.edge_count; touched_edges = new.touched_edges })
       ≡ with_edge (contents_of old) (edge_named (keys_of old.sources.entries) (keys_of old.ids.entries) n) row
   add-set row is = λ j. record { entities = entities j; edges = all j }
     where

@@ -1,5 +1,5 @@
 -- Edges by place: look-ups, and the rows after one of them is written.
-use Rattle.std.proofs.Common.{◌≡◌, ◌≤◌, ◌<◌, ◌+◌, ◌^◌, ℕ, Bool, true, false, List, [], ◌∷◌, Option, None, Some, refl, sym, ◌∙◌, ap, subst, length, map, take, slice_get, arith}
+use Rattle.std.proofs.Common.{◌≡◌, ◌≤◌, ◌<◌, ◌+◌, ◌^◌, ℕ, Bool, true, false, if◌then◌else◌, List, [], ◌∷◌, ◌++◌, Option, None, Some, refl, sym, ◌∙◌, ap, subst, length, map, take, slice_get, arith}
 use Rattle.std.specs.BTreeSet.{contains}
 use Rattle.std.specs.List.{IsDistinct}
 use Rattle.std.specs.Map.{keys_of}
@@ -21,7 +21,7 @@ use Rattle.uni_base.specs.EdgeOrder.{edge_cmp}
 use Rattle.uni_base.specs.declared.edge.EdgeRef.{EdgeRef}
 use Rattle.uni_table.specs.Contents.{edge_at, without_edge}
 use Rattle.uni_table.specs.GraphKeys.{edge_total, exact_edges}
-use Rattle.uni_table.specs.GraphRows.{IsRows, IsKnown, IsCircleKnown, IsPlaceOf, IsNoted, IsQuiet, edge_named, row_of, slot_named, slots_named, contents_of, is_live, last_at, next_at, no_at, has_at, end_cmp, with_edge_row}
+use Rattle.uni_table.specs.GraphRows.{IsRows, AreTouched, IsBeforeKnown, published_of, slot_before, is_same, is_same_entity, stood, written, IsKnown, IsCircleKnown, IsPlaceOf, IsNoted, IsQuiet, edge_named, row_of, slot_named, slots_named, contents_of, is_live, last_at, next_at, no_at, has_at, end_cmp, with_edge_row}
 use Rattle.uni_table.specs.declared.command.EdgeRow.{EdgeRow}
 use Rattle.uni_table.specs.declared.graph.numbers.EdgeNo.{EdgeNo}
 use Rattle.uni_table.specs.declared.graph.numbers.Slot.{Slot}
@@ -32,6 +32,8 @@ use Rattle.uni_table.specs.declared.graph.numbers.Side.TheVariants.{Target, Sour
 use Rattle.uni_table.specs.declared.graph.rows.Rows.{Rows}
 use Rattle.uni_table.proofs.GraphGrown.{longer-refl}
 use Rattle.uni_table.proofs.GraphPlaces.{remove-none}
+use Rattle.uni_table.proofs.Published.{slots-then, stood-known, stood-touched}
+use Rattle.uni_table.proofs.TouchedRows.{touched-again, touched-first, touched-room}
 
 -- an edge with its row at a place
 pub slot-at : (rows : Rows) (i : ℕ) (e : EdgeNo × Slot) → slice_get rows.edges.entries i ≡ Some e → slice_get (slots_named rows) i ≡ Some (slot_named (keys_of rows.sources.entries) (keys_of rows.ids.entries) e)
@@ -56,33 +58,34 @@ edge-absent rows kept edge none =
     (remove-none (is_at (edge_cmp edge)) (contents_of rows).edges (absent-ordered edge_total edge (slots_named rows) kept.edges none))
 
 module _ (old new : Rows) (kept : IsRows old) (i : ℕ) (n : EdgeNo) (slot : Slot) (state : SlotState) (end : ℕ) (at : slice_get old.edges.entries i ≡ Some (n, slot))
-    (is : new.edges.entries ≡ set_value_at old.edges.entries i (record slot { state = state; end = end })) where
+    (is : new.edges.entries ≡ set_value_at old.edges.entries i (written slot state end)) where
   w : Slot
-  w = record slot { state = state; end = end }
+  w = written slot state end
 
   same : (e : EdgeNo × Slot) → slice_get old.edges.entries i ≡ Some e → slot ≡ e.1
   same e there = let both : (n, slot) ≡ e = cc in ap (λ x. x.1) both
 
   keys : keys_of new.edges.entries ≡ keys_of old.edges.entries
-  keys = ap keys_of is ∙ keys-written old.edges.entries i (record slot { state = state; end = end })
+  keys = ap keys_of is ∙ keys-written old.edges.entries i (written slot state end)
 
   pub slots-written : map (slot_named (keys_of old.sources.entries) (keys_of old.ids.entries)) new.edges.entries ≡ set_value_at (slots_named old) i (row_of (keys_of old.sources.entries) state end)
   slots-written =
       ap (map (slot_named (keys_of old.sources.entries) (keys_of old.ids.entries))) is
-      ∙ map-written (slot_named (keys_of old.sources.entries) (keys_of old.ids.entries)) old.edges.entries i (record slot { state = state; end = end }) (row_of (keys_of old.sources.entries) state end) (λ e there. refl)
+      ∙ map-written (slot_named (keys_of old.sources.entries) (keys_of old.ids.entries)) old.edges.entries i (written slot state end) (row_of (keys_of old.sources.entries) state end) (λ e there. refl)
 
   -- the rows with it are kept, if its end is noted and what lives is counted
   pub edge-kept : IsCircleKnown (length old.sources.entries) state → IsNoted old state end i → new.edge_count + one_if (is_live slot.state) ≡ old.edge_count + one_if (is_live state)
-      → IsRows (record old { edges = new.edges; edge_count = new.edge_count })
-  edge-kept circle noted count = record {
+      → new.touched_edges.items ≡ (if is_same slot.before then old.touched_edges.items ++ i ∷ [] else old.touched_edges.items) → new.touched_edges.cap ≡ old.touched_edges.cap
+      → IsRows (record old { edges = new.edges; edge_count = new.edge_count; touched_edges = new.touched_edges })
+  edge-kept circle noted count places room = record {
     known =
         subst (AtEach (λ j e. IsKnown (length old.sources.entries) (length old.ids.entries) e)) (sym is)
-        (at_each-written (λ j e. IsKnown (length old.sources.entries) (length old.ids.entries) e) old.edges.entries i (record slot { state = state; end = end }) kept.known
-        (λ e there k. record { source = k.source; target = k.target; circle = circle }));
+        (at_each-written (λ j e. IsKnown (length old.sources.entries) (length old.ids.entries) e) old.edges.entries i (written slot state end) kept.known
+        (λ e there k. let told = known-told e there k in record { source = k.source; target = k.target; circle = circle; before = told }));
     chains = λ side.
         subst (λ ks. AtEach (λ j e. next_at side e.1 ≡ last_no (has_at side (no_at side e.0)) (take j ks)) new.edges.entries) (sym keys)
         (subst (AtEach (λ j e. next_at side e.1 ≡ last_no (has_at side (no_at side e.0)) (take j (keys_of old.edges.entries)))) (sym is)
-        (at_each-written (λ j e. next_at side e.1 ≡ last_no (has_at side (no_at side e.0)) (take j (keys_of old.edges.entries))) old.edges.entries i (record slot { state = state; end = end }) (kept.chains side)
+        (at_each-written (λ j e. next_at side e.1 ≡ last_no (has_at side (no_at side e.0)) (take j (keys_of old.edges.entries))) old.edges.entries i (written slot state end) (kept.chains side)
         (λ e there k. next side ∙ ap (next_at side) (same e there) ∙ k)));
     lasts = λ side q. last side q ∙ kept.lasts side q ∙ ap (last_no (has_at side q)) (sym keys);
     ids = kept.ids;
@@ -90,26 +93,42 @@ module _ (old new : Rows) (kept : IsRows old) (i : ℕ) (n : EdgeNo) (slot : Slo
     edges = subst (λ es. IsDistinct (eq_by_cmp edge_cmp) (keys_of es)) (sym slots-written) (subst (IsDistinct (eq_by_cmp edge_cmp)) (sym (keys-written (slots_named old) i (row_of (keys_of old.sources.entries) state end))) kept.edges);
     few_ids = kept.few_ids;
     few_sources = kept.few_sources;
-    few_edges = omega (arith, kept.few_edges, ap length is, length-written old.edges.entries i (record slot { state = state; end = end }));
+    few_edges = omega (arith, kept.few_edges, ap length is, length-written old.edges.entries i (written slot state end));
     entity_count = kept.entity_count;
     edge_count =
-        omega (arith, count, kept.edge_count, ap (count_of (λ s. is_live s.state)) is, count-written (λ s. is_live s.state) old.edges.entries i n slot (record slot { state = state; end = end }) at);
+        omega (arith, count, kept.edge_count, ap (count_of (λ s. is_live s.state)) is, count-written (λ s. is_live s.state) old.edges.entries i n slot (written slot state end) at);
     ended =
         subst (AtEach (λ j e. is_live e.1.state ≡ true → 0 < e.1.end → contains end_cmp old.ends (e.1.end, j + 1) ≡ true)) (sym is)
         (here (λ j e. is_live e.1.state ≡ true → 0 < e.1.end → contains end_cmp old.ends (e.1.end, j + 1) ≡ true) kept.ended noted);
+    touched_ids = kept.touched_ids;
+    touched_edges =
+        subst (λ es. AreTouched (λ s. is_same s.before) es new.touched_edges.items new.touched_edges.cap) (sym is)
+        (subst (λ m. AreTouched (λ s. is_same s.before) (set_value_at old.edges.entries i (written slot state end)) new.touched_edges.items m) (sym room)
+        (subst (λ ps. AreTouched (λ s. is_same s.before) (set_value_at old.edges.entries i (written slot state end)) ps old.touched_edges.cap) (sym places)
+        (touched (is_same slot.before) refl)));
   }
     where
-      next : (side : Side) → next_at side (record slot { state = state; end = end }) ≡ next_at side slot
+      known-told : (e : EdgeNo × Slot) → slice_get old.edges.entries i ≡ Some e → IsKnown (length old.sources.entries) (length old.ids.entries) e → IsBeforeKnown (length old.sources.entries) (stood slot.before slot.state slot.end)
+      known-told e there k =
+          let whole : IsKnown (length old.sources.entries) (length old.ids.entries) (n, slot) = kept.known i (n, slot) at in
+          stood-known (length old.sources.entries) slot.before slot.state slot.end whole.before whole.circle
+
+      touched : (b : Bool) → is_same slot.before ≡ b
+          → AreTouched (λ s. is_same s.before) (set_value_at old.edges.entries i (written slot state end)) (if b then old.touched_edges.items ++ i ∷ [] else old.touched_edges.items) old.touched_edges.cap
+      touched true was = touched-first (λ s. is_same s.before) old.edges.entries old.touched_edges.items old.touched_edges.cap kept.touched_edges i n slot (written slot state end) at was (stood-touched slot.before slot.state slot.end)
+      touched false was = touched-again (λ s. is_same s.before) old.edges.entries old.touched_edges.items old.touched_edges.cap kept.touched_edges i n slot (written slot state end) at was (stood-touched slot.before slot.state slot.end)
+
+      next : (side : Side) → next_at side (written slot state end) ≡ next_at side slot
       next Target = refl
       next From = refl
 
-      last : (side : Side) (q : ℕ) → last_at side (record old { edges = new.edges; edge_count = new.edge_count }) q ≡ last_at side old q
+      last : (side : Side) (q : ℕ) → last_at side (record old { edges = new.edges; edge_count = new.edge_count; touched_edges = new.touched_edges }) q ≡ last_at side old q
       last Target q = refl
       last From q = refl
 
-      here : (P : ℕ → EdgeNo × Slot → Type 0) → AtEach P old.edges.entries → P i (n, record slot { state = state; end = end }) → AtEach P (set_value_at old.edges.entries i (record slot { state = state; end = end }))
+      here : (P : ℕ → EdgeNo × Slot → Type 0) → AtEach P old.edges.entries → P i (n, written slot state end) → AtEach P (set_value_at old.edges.entries i (written slot state end))
       here P all is_so =
-          Rattle.chained_rows.proofs.Places.at_each-set P old.edges.entries i n slot (record slot { state = state; end = end }) all at is_so
+          Rattle.chained_rows.proofs.Places.at_each-set P old.edges.entries i n slot (written slot state end) all at is_so
 
   edges : ordered edge_cmp (map (slot_named (keys_of old.sources.entries) (keys_of old.ids.entries)) new.edges.entries)
       ≡ (with_edge_row (contents_of old) (edge_named (keys_of old.sources.entries) (keys_of old.ids.entries) n) (row_of (keys_of old.sources.entries) state end)).edges
@@ -127,9 +146,15 @@ module _ (old new : Rows) (kept : IsRows old) (i : ℕ) (n : EdgeNo) (slot : Slo
   entities (Some x) = refl
 
   -- they stand for the contents with it
-  pub edge-set : contents_of (record old { edges = new.edges; edge_count = new.edge_count })
+  pub edge-set : contents_of (record old { edges = new.edges; edge_count = new.edge_count; touched_edges = new.touched_edges })
       ≡ with_edge_row (contents_of old) (edge_named (keys_of old.sources.entries) (keys_of old.ids.entries) n) (row_of (keys_of old.sources.entries) state end)
   edge-set = λ j. record { entities = entities (row_of (keys_of old.sources.entries) state end) j; edges = edges j }
+
+  -- and were at the last publish what they were
+  pub edge-then : published_of (record old { edges = new.edges; edge_count = new.edge_count; touched_edges = new.touched_edges }) ≡ published_of old
+  edge-then =
+      let all = ap (map (slot_before (keys_of old.sources.entries) (keys_of old.ids.entries))) is ∙ slots-then (keys_of old.sources.entries) (keys_of old.ids.entries) old.edges.entries i n slot state end at in
+      ap (λ es. record (published_of old) { edges = ordered edge_cmp es }) all
 
 -- what lives is counted
 pub edge-counted : (rows : Rows) → IsRows rows → (i : ℕ) (n : EdgeNo) (slot : Slot) → slice_get rows.edges.entries i ≡ Some (n, slot) → one_if (is_live slot.state) ≤ rows.edge_count
@@ -155,8 +180,11 @@ quiet-ends old new kept more = record {
     entity_count = kept.entity_count;
     edge_count = kept.edge_count;
     ended = λ i e at live ends. more (e.1.end, i + 1) (kept.ended i e at live ends);
+    touched_ids = kept.touched_ids;
+    touched_edges = kept.touched_edges;
   };
   same = refl;
+  published = refl;
   edges = refl;
   sources = longer-refl (keys_of old.sources.entries);
   ids = longer-refl (keys_of old.ids.entries);
@@ -165,6 +193,42 @@ quiet-ends old new kept more = record {
     last : (side : Side) (q : ℕ) → last_at side (record old { ends = new.ends }) q ≡ last_at side old q
     last Target q = refl
     last From q = refl
+
+module _ (old new : Rows) (kept : IsRows old) where
+  last : (side : Side) (q : ℕ) → last_at side (record old { touched_ids = new.touched_ids; touched_edges = new.touched_edges }) q ≡ last_at side old q
+  last Target q = refl
+  last From q = refl
+
+  -- more room for places changes nothing
+  pub quiet-room : new.touched_ids.items ≡ old.touched_ids.items → old.touched_ids.cap ≤ new.touched_ids.cap → new.touched_edges.items ≡ old.touched_edges.items → old.touched_edges.cap ≤ new.touched_edges.cap
+      → IsQuiet old (record old { touched_ids = new.touched_ids; touched_edges = new.touched_edges })
+  quiet-room ids more_ids edges more_edges = record {
+    kept = record {
+      known = kept.known;
+      chains = kept.chains;
+      lasts = λ side q. last side q ∙ kept.lasts side q;
+      ids = kept.ids;
+      sources = kept.sources;
+      edges = kept.edges;
+      few_ids = kept.few_ids;
+      few_sources = kept.few_sources;
+      few_edges = kept.few_edges;
+      entity_count = kept.entity_count;
+      edge_count = kept.edge_count;
+      ended = kept.ended;
+      touched_ids =
+          subst (λ ps. AreTouched (λ n. is_same_entity n.before) old.ids.entries ps new.touched_ids.cap) (sym ids)
+          (touched-room (λ n. is_same_entity n.before) old.ids.entries old.touched_ids.items old.touched_ids.cap kept.touched_ids new.touched_ids.cap more_ids);
+      touched_edges =
+          subst (λ ps. AreTouched (λ s. is_same s.before) old.edges.entries ps new.touched_edges.cap) (sym edges)
+          (touched-room (λ s. is_same s.before) old.edges.entries old.touched_edges.items old.touched_edges.cap kept.touched_edges new.touched_edges.cap more_edges);
+    };
+    same = refl;
+    published = refl;
+    edges = refl;
+    sources = longer-refl (keys_of old.sources.entries);
+    ids = longer-refl (keys_of old.ids.entries);
+  }
 
 -- the count is that of the contents' edges
 pub edges-counted : (rows : Rows) → IsRows rows → rows.edge_count ≡ length (contents_of rows).edges

@@ -122,7 +122,7 @@ module _ (publish : ℕ) where
 
   -- an edge that has ended and is marked as gone: the others that stay are the same
   pub marked-same : (old new : Rows) → IsRows old → IsRows new → (i : ℕ) (n : EdgeNo) (slot : Slot) → slice_get old.edges.entries i ≡ Some (n, slot) → is_ended publish slot ≡ true
-      → new.ids ≡ old.ids → new.sources ≡ old.sources → new.edges.entries ≡ set_value_at old.edges.entries i (record slot { state = Gone; end = 0 })
+      → new.ids ≡ old.ids → new.sources ≡ old.sources → new.edges.entries ≡ set_value_at old.edges.entries i (Rattle.uni_table.specs.GraphRows.written slot Gone 0)
       → ended (contents_of new) publish ≡ ended (contents_of old) publish
   marked-same old new kept made i n slot at has ids sources edges =
       λ j. record { entities = ordered nat_cmp (map Rattle.uni_table.specs.GraphRows.node_named (ids j).entries); edges = all j }
@@ -164,6 +164,8 @@ module _ (publish : ℕ) where
     entity_count = kept.entity_count;
     edge_count = kept.edge_count;
     ended = λ i e at live some. others (e.1.end, i + 1) ∙ by i e at live some (is_at (end_cmp first) (e.1.end, i + 1)) refl;
+    touched_ids = kept.touched_ids;
+    touched_edges = kept.touched_edges;
   }
     where
       last : (side : Side) (q : ℕ) → last_at side (record old { ends = new.ends }) q ≡ last_at side old q
@@ -194,10 +196,10 @@ ended-row publish es (suc i) h = by (slice_get es i) refl h
 
 -- once it is marked, the edge of its number has not ended
 pub marked-row : (publish : ℕ) (es new : List (EdgeNo × Slot)) (number i : ℕ) (n : EdgeNo) (slot : Slot) → number ≡ suc i → slice_get es i ≡ Some (n, slot)
-    → new ≡ set_value_at es i (record slot { state = Gone; end = 0 }) → option_map_or (λ e. is_ended publish e.1) (row_no new number) false ≡ false
+    → new ≡ set_value_at es i (Rattle.uni_table.specs.GraphRows.written slot Gone 0) → option_map_or (λ e. is_ended publish e.1) (row_no new number) false ≡ false
 marked-row publish es new number i n slot is at written =
     ap (λ m. option_map_or (λ e. is_ended publish e.1) (row_no new m) false) is
-    ∙ ap (λ o. option_map_or (λ e. is_ended publish e.1) o false) (ap (λ fs. slice_get fs i) written ∙ slice_get-written es i n slot (record slot { state = Gone; end = 0 }) at)
+    ∙ ap (λ o. option_map_or (λ e. is_ended publish e.1) o false) (ap (λ fs. slice_get fs i) written ∙ slice_get-written es i n slot (Rattle.uni_table.specs.GraphRows.written slot Gone 0) at)
 
 -- the ends without the first
 pub popped : (result : Option (ℕ × ℕ)) (old new : BTreeSet (ℕ × ℕ)) → Rattle.std.specs.Option.IfSome result (λ k. old.keys ≡ k ∷ new.keys) → Rattle.std.specs.Option.IfSome result (λ k. Rattle.std.specs.BTreeSet.Updates end_cmp old new k false)

@@ -1,9 +1,9 @@
 -- What more numbers leave as it was.
-use Rattle.std.proofs.Common.{◌≡◌, ◌≤◌, ◌<◌, ◌+◌, ◌^◌, inl, inr, ℕ, zero, suc, Bool, true, false, List, [], ◌∷◌, ◌++◌, None, Some, refl, sym, ◌∙◌, ap, subst, length, map, take, slice_get, get_or, nat_eq, is_some, arith, length-append}
+use Rattle.std.proofs.Common.{◌≡◌, ◌≤◌, ◌<◌, ◌+◌, ◌^◌, inl, inr, ℕ, zero, suc, Bool, true, false, List, [], ◌∷◌, ◌++◌, Option, None, Some, refl, sym, ◌∙◌, ap, subst, length, map, take, slice_get, get_or, nat_eq, is_some, arith, length-append}
 use Rattle.std.specs.BTreeSet.{contains}
 use Rattle.std.specs.List.{IsDistinct}
 use Rattle.std.specs.Map.{keys_of}
-use Rattle.std.specs.Option.{option_map_or}
+use Rattle.std.specs.Option.{option_map, option_map_or}
 use Rattle.std.specs.Ordering.{nat_cmp, eq_by_cmp}
 use Rattle.std.proofs.lemmas.List.{map_push}
 use Rattle.std.proofs.lemmas.Map.Entries.{length-keys_of}
@@ -17,11 +17,14 @@ use Rattle.chained_rows.proofs.Places.{slice_get-before, map-agree}
 use Rattle.std.specs.Cmp.{nat_cmp_total}
 use Rattle.uni_base.specs.EdgeOrder.{edge_cmp}
 use Rattle.uni_table.specs.GraphKeys.{source_eq}
-use Rattle.uni_table.specs.GraphRows.{Grows, IsRows, IsKnown, IsCircleKnown, IsQuiet, source_named, audience_named, slot_named, slots_named, node_named, edge_named, circle_named, last_at, next_at, no_at, has_at, is_entity, is_live, end_cmp}
+use Rattle.uni_table.specs.GraphRows.{Grows, IsRows, IsKnown, IsCircleKnown, IsBeforeKnown, IsQuiet, AreTouched, slot_before, node_before, entity_before, row_before, row_of, is_same, is_same_entity, source_named, audience_named, slot_named, slots_named, node_named, edge_named, circle_named, last_at, next_at, no_at, has_at, is_entity, is_live, end_cmp}
 use Rattle.uni_table.specs.declared.graph.numbers.Source.{Source}
 use Rattle.uni_table.specs.declared.graph.numbers.Node.{Node}
 use Rattle.uni_table.specs.declared.graph.numbers.EdgeNo.{EdgeNo}
 use Rattle.uni_table.specs.declared.graph.numbers.Slot.{Slot}
+use Rattle.uni_table.specs.declared.command.EdgeRow.{EdgeRow}
+use Rattle.uni_table.specs.declared.graph.numbers.Before.{Before}
+use Rattle.uni_table.specs.declared.graph.numbers.Before.TheVariants as before
 use Rattle.uni_table.specs.declared.graph.numbers.SlotState.{SlotState}
 use Rattle.uni_table.specs.declared.graph.numbers.SlotState.TheVariants.{Gone, Public, Only, Circle}
 use Rattle.uni_table.specs.declared.graph.numbers.Side.{Side}
@@ -109,15 +112,53 @@ entities-same old new id node none (inr more) =
     ap (λ es. ordered nat_cmp (map node_named es)) more ∙ ap (ordered nat_cmp) (map_push node_named old (id, node))
     ∙ ap (λ r. ordered nat_cmp (map node_named old ++ (id, r) ∷ [])) none ∙ ordered-push_none nat_cmp_total (map node_named old) id
 
+pub before-more : (m n : ℕ) → m ≤ n → (b : Before) → IsBeforeKnown m b → IsBeforeKnown n b
+before-more m n le before.Same known = tt
+before-more m n le before.Gone known = tt
+before-more m n le (before.Public end) known = tt
+before-more m n le (before.Only end) known = tt
+before-more m n le (before.Circle k end) known = omega arith
+
+module _ (sources more_sources : List Source) (ids more_ids : List ℕ) (s : IsLonger sources more_sources) (t : IsLonger ids more_ids) where
+  before-same : (b : Before) (now : Option EdgeRow) → IsBeforeKnown (length sources) b → row_before more_sources b now ≡ row_before sources b now
+  before-same before.Same now known = refl
+  before-same before.Gone now known = refl
+  before-same (before.Public end) now known = refl
+  before-same (before.Only end) now known = refl
+  before-same (before.Circle n end) now known = ap (option_map (λ a. record { audience = a; end = end })) (audience-same sources more_sources ids more_ids s t (Circle n) known)
+
+  -- more numbers leave an edge at the last publish as it was
+  slot-then : (e : EdgeNo × Slot) → IsKnown (length sources) (length ids) e → slot_before more_sources more_ids e ≡ slot_before sources ids e
+  slot-then e known =
+      let edge = edge-same sources more_sources ids more_ids s t e.0 known.source known.target in
+      let now = slot-same sources more_sources ids more_ids s t e known in
+      let row = ap (λ x. row_before more_sources e.1.before x.1) now ∙ before-same e.1.before (row_of sources e.1.state e.1.end) known.before in
+      λ j. (edge j, row j)
+
+-- and all
+pub then-same : (old new : Rows) → IsRows old → IsLonger (keys_of old.sources.entries) (keys_of new.sources.entries) → IsLonger (keys_of old.ids.entries) (keys_of new.ids.entries)
+    → map (slot_before (keys_of new.sources.entries) (keys_of new.ids.entries)) old.edges.entries ≡ map (slot_before (keys_of old.sources.entries) (keys_of old.ids.entries)) old.edges.entries
+then-same old new kept s t =
+    map-agree (slot_before (keys_of new.sources.entries) (keys_of new.ids.entries)) (slot_before (keys_of old.sources.entries) (keys_of old.ids.entries)) old.edges.entries
+    (λ i e at. slot-then (keys_of old.sources.entries) (keys_of new.sources.entries) (keys_of old.ids.entries) (keys_of new.ids.entries) s t e (known-keys old.sources.entries old.ids.entries e (kept.known i e at)))
+
+-- an id that is new was no entity
+pub entities-then : (old new : List (ℕ × Node)) (id : ℕ) (node : Node) → entity_before node ≡ None → Grows old new id node → ordered nat_cmp (map node_before new) ≡ ordered nat_cmp (map node_before old)
+entities-then old new id node none (inl same) = ap (λ es. ordered nat_cmp (map node_before es)) same
+entities-then old new id node none (inr more) =
+    ap (λ es. ordered nat_cmp (map node_before es)) more ∙ ap (ordered nat_cmp) (map_push node_before old (id, node))
+    ∙ ap (λ r. ordered nat_cmp (map node_before old ++ (id, r) ∷ [])) none ∙ ordered-push_none nat_cmp_total (map node_before old) id
+
 -- numbers that are added change nothing else
-pub quiet-grown : (old new : Rows) → IsRows old → (id : ℕ) (node : Node) → node.row ≡ None → node.last_edge ≡ 0 → Grows old.ids.entries new.ids.entries id node
+pub quiet-grown : (old new : Rows) → IsRows old → (id : ℕ) (node : Node) → node.row ≡ None → entity_before node ≡ None → node.last_edge ≡ 0 → Grows old.ids.entries new.ids.entries id node
     → (source : Source) → Grows old.sources.entries new.sources.entries source 0
     → new.edges.entries ≡ old.edges.entries → new.ends ≡ old.ends → new.entity_count ≡ old.entity_count → new.edge_count ≡ old.edge_count
     → IsDistinct nat_eq (keys_of new.ids.entries) → IsDistinct source_eq (keys_of new.sources.entries) → length new.ids.entries < 2 ^ 32 → length new.sources.entries < 2 ^ 32
+    → AreTouched (λ n. is_same_entity n.before) new.ids.entries new.touched_ids.items new.touched_ids.cap → new.touched_edges ≡ old.touched_edges
     → IsQuiet old new
-quiet-grown old new kept id node none zero_last ids source sources same ends entities edges ids_apart sources_apart few_ids few_sources = record {
+quiet-grown old new kept id node none no_entity zero_last ids source sources same ends entities edges ids_apart sources_apart few_ids few_sources touched_ids touched_edges = record {
   kept = record {
-    known = subst (AtEach (λ i e. IsKnown (length new.sources.entries) (length new.ids.entries) e)) (sym same) (λ i e at. let k = kept.known i e at in record { source = omega (arith, k.source, more_sources); target = omega (arith, k.target, more_ids); circle = circle-more _ _ more_sources e.1.state k.circle });
+    known = subst (AtEach (λ i e. IsKnown (length new.sources.entries) (length new.ids.entries) e)) (sym same) (λ i e at. let k = kept.known i e at in record { source = omega (arith, k.source, more_sources); target = omega (arith, k.target, more_ids); circle = circle-more _ _ more_sources e.1.state k.circle; before = before-more _ _ more_sources e.1.before k.before });
     chains = subst (λ es. (side : Side) → AtEach (λ i e. next_at side e.1 ≡ last_no (has_at side (no_at side e.0)) (take i (keys_of es))) es) (sym same) kept.chains;
     lasts = λ side q. last side q ∙ kept.lasts side q ∙ ap (λ es. last_no (has_at side q) (keys_of es)) (sym same);
     ids = ids_apart;
@@ -131,7 +172,12 @@ quiet-grown old new kept id node none zero_last ids source sources same ends ent
     ended =
         subst (AtEach (λ i e. is_live e.1.state ≡ true → 0 < e.1.end → contains end_cmp new.ends (e.1.end, i + 1) ≡ true)) (sym same)
         (subst (λ s. AtEach (λ i e. is_live e.1.state ≡ true → 0 < e.1.end → contains end_cmp s (e.1.end, i + 1) ≡ true) old.edges.entries) (sym ends) kept.ended);
+    touched_ids = touched_ids;
+    touched_edges =
+        subst (λ es. AreTouched (λ slot. is_same slot.before) es new.touched_edges.items new.touched_edges.cap) (sym same)
+        (subst (λ ps. AreTouched (λ slot. is_same slot.before) old.edges.entries ps.items ps.cap) (sym touched_edges) kept.touched_edges);
   };
+  published = λ j. record { entities = entities-then old.ids.entries new.ids.entries id node no_entity ids j; edges = ordered edge_cmp (slots_then j) };
   same = λ j. record { entities = entities-same old.ids.entries new.ids.entries id node none ids j; edges = ordered edge_cmp (slots j) };
   edges = same;
   sources = longer_sources;
@@ -153,6 +199,9 @@ quiet-grown old new kept id node none zero_last ids source sources same ends ent
     slots : slots_named new ≡ slots_named old
     slots = slots-same old new kept longer_sources longer_ids same
 
+    slots_then : map (slot_before (keys_of new.sources.entries) (keys_of new.ids.entries)) new.edges.entries ≡ map (slot_before (keys_of old.sources.entries) (keys_of old.ids.entries)) old.edges.entries
+    slots_then = ap (map (slot_before (keys_of new.sources.entries) (keys_of new.ids.entries))) same ∙ then-same old new kept longer_sources longer_ids
+
     last : (side : Side) (q : ℕ) → last_at side new q ≡ last_at side old q
     last Target q = read-grown old.ids.entries new.ids.entries id node (λ e. e.1.last_edge) zero_last ids q
     last From q = read-grown old.sources.entries new.sources.entries source 0 (λ e. e.1) refl sources q
@@ -162,10 +211,11 @@ pub quiet-trans : (a b c : Rows) → IsQuiet a b → IsQuiet b c → IsQuiet a c
 quiet-trans a b c p q = record {
   kept = q.kept;
   same = q.same ∙ p.same;
+  published = q.published ∙ p.published;
   edges = q.edges ∙ p.edges;
   sources = λ i x at. q.sources i x (p.sources i x at);
   ids = λ i x at. q.ids i x (p.ids i x at);
 }
 
 pub quiet-refl : (rows : Rows) → IsRows rows → IsQuiet rows rows
-quiet-refl rows kept = record { kept = kept; same = refl; edges = refl; sources = longer-refl (keys_of rows.sources.entries); ids = longer-refl (keys_of rows.ids.entries) }
+quiet-refl rows kept = record { kept = kept; same = refl; published = refl; edges = refl; sources = longer-refl (keys_of rows.sources.entries); ids = longer-refl (keys_of rows.ids.entries) }

@@ -20,13 +20,15 @@ use Rattle.uni_base.specs.EdgeOrder.{edge_cmp, key_cmp-total}
 use Rattle.uni_base.specs.declared.edge.EdgeRef.{EdgeRef}
 use Rattle.uni_base.specs.declared.edge.Key.TheVariants.{Id}
 use Rattle.uni_table.specs.GraphKeys.{source_eq, exact_edges}
-use Rattle.uni_table.specs.GraphRows.{IsRows, IsKnown, IsNumbered, IsPlaceOf, source_named, edge_named, slot_named, next_at, no_at, has_at, last_at, is_entity, is_live, end_cmp}
+use Rattle.uni_table.specs.GraphRows.{IsRows, AreTouched, is_same, is_same_entity, IsKnown, IsNumbered, IsPlaceOf, source_named, edge_named, slot_named, next_at, no_at, has_at, last_at, is_entity, is_live, end_cmp}
 use Rattle.uni_table.specs.declared.graph.numbers.Source.{Source}
+use Rattle.uni_table.specs.declared.graph.numbers.Node.{Node}
 use Rattle.uni_table.specs.declared.graph.numbers.EdgeNo.{EdgeNo}
 use Rattle.uni_table.specs.declared.graph.numbers.Slot.{Slot}
 use Rattle.uni_table.specs.declared.graph.numbers.Side.{Side}
 use Rattle.uni_table.specs.declared.graph.numbers.Side.TheVariants.{Target, Source as From}
 use Rattle.uni_table.specs.declared.graph.rows.Rows.{Rows}
+use Rattle.uni_table.proofs.TouchedRows.{touched-none}
 use Rattle.uni_table.proofs.GraphGrown.{known-keys}
 use Rattle.uni_table.proofs.GraphPlaces.{all-at}
 
@@ -151,9 +153,9 @@ module _ (rows : Rows) (kept : IsRows rows) (edge : EdgeRef) where
 
 -- no rows keep all
 pub empty-kept : (rows : Rows) → rows.ids.entries ≡ [] → rows.sources.entries ≡ [] → rows.edges.entries ≡ [] → rows.entity_count ≡ 0 → rows.edge_count ≡ 0
-    → IsDistinct nat_eq (keys_of rows.ids.entries) → IsDistinct source_eq (keys_of rows.sources.entries) → IsRows rows
+    → IsDistinct nat_eq (keys_of rows.ids.entries) → IsDistinct source_eq (keys_of rows.sources.entries) → rows.touched_ids.items ≡ [] → rows.touched_edges.items ≡ [] → IsRows rows
 unfolding IsDistinct
-empty-kept rows ids sources edges entity_count edge_count ids_apart sources_apart = record {
+empty-kept rows ids sources edges entity_count edge_count ids_apart sources_apart touched_ids touched_edges = record {
   known = subst (AtEach (λ i e. IsKnown (length rows.sources.entries) (length rows.ids.entries) e)) (sym edges) (λ i e at. cc);
   chains = λ side. subst (λ es. AtEach (λ i e. next_at side e.1 ≡ last_no (has_at side (no_at side e.0)) (take i (keys_of rows.edges.entries))) es) (sym edges) (λ i e at. cc);
   lasts = λ side q. last side q ∙ ap (λ es. last_no (has_at side q) (keys_of es)) (sym edges);
@@ -166,6 +168,12 @@ empty-kept rows ids sources edges entity_count edge_count ids_apart sources_apar
   entity_count = entity_count ∙ ap (count_of is_entity) (sym ids);
   edge_count = edge_count ∙ ap (count_of (λ slot. is_live slot.state)) (sym edges);
   ended = subst (AtEach (λ i e. is_live e.1.state ≡ true → 0 < e.1.end → contains end_cmp rows.ends (e.1.end, i + 1) ≡ true)) (sym edges) (λ i e at. cc);
+  touched_ids =
+      subst (λ es. AreTouched {K = ℕ} (λ (node : Node). is_same_entity node.before) es rows.touched_ids.items rows.touched_ids.cap) (sym ids)
+      (subst (λ ps. AreTouched {K = ℕ} (λ (node : Node). is_same_entity node.before) [] ps rows.touched_ids.cap) (sym touched_ids) (touched-none (λ (node : Node). is_same_entity node.before) rows.touched_ids.cap));
+  touched_edges =
+      subst (λ es. AreTouched {K = EdgeNo} (λ (slot : Slot). is_same slot.before) es rows.touched_edges.items rows.touched_edges.cap) (sym edges)
+      (subst (λ ps. AreTouched {K = EdgeNo} (λ (slot : Slot). is_same slot.before) [] ps rows.touched_edges.cap) (sym touched_edges) (touched-none (λ (slot : Slot). is_same slot.before) rows.touched_edges.cap));
 }
   where
     last : (side : Side) (q : ℕ) → last_at side rows q ≡ 0

@@ -6,7 +6,7 @@ use Rattle.std.specs.Option.{option_to_list}
 use Rattle.std.proofs.lemmas.List.{take_all, drop_all}
 use Rattle.std.proofs.lemmas.Map.Entries.{length-keys_of}
 use Rattle.indexmap.specs.Layout.{set_value_at}
-use Rattle.chained_rows.specs.Chains.{last_no, changed_from}
+use Rattle.chained_rows.specs.Chains.{or_first, last_no, changed_from}
 use Rattle.chained_rows.proofs.Chains.{last_no-le, last_no-passes, picked-along, picked-step, changed-along, changed-step, changed-none, changed-at}
 use Rattle.uni_base.specs.declared.edge.Held.{Held}
 use Rattle.uni_table.specs.GraphRows.{IsRows, has_at, no_at, next_at, last_at, held_at, held_by, slot_named, edge_named, row_of, is_live, gone, gone_at}
@@ -58,7 +58,7 @@ module _ (rows : Rows) (kept : IsRows rows) (side : Side) (q : ℕ) where
       pub along-passes : has_at side q e.0 ≡ true
       along-passes = last_no-passes (has_at side q) (keys_of rows.edges.entries) along.m i e.0 last-is (key-at rows.edges.entries i e at)
 
-      next-is : next_at side e.1 ≡ last_no (has_at side q) (take i (keys_of rows.edges.entries))
+      pub next-is : next_at side e.1 ≡ last_no (has_at side q) (take i (keys_of rows.edges.entries))
       next-is = kept.chains side i e at ∙ ap (λ n. last_no (has_at side n) (take i (keys_of rows.edges.entries))) (sym (same-number q (no_at side e.0) along-passes))
 
       -- the next goes on
@@ -77,6 +77,28 @@ module _ (rows : Rows) (kept : IsRows rows) (side : Side) (q : ℕ) where
           ∙ picked-step (has_at side q) (held_at rows side q) (none-at rows side q) rows.edges.entries i e at
           ∙ ap (λ b. cons_option (if b then held_by (slot_named (keys_of rows.sources.entries) (keys_of rows.ids.entries) e) else None) (filter_map (held_at rows side q) (drop (suc i) rows.edges.entries))) along-passes
           ∙ ap (λ n. cons_option (held_by (slot_named (keys_of rows.sources.entries) (keys_of rows.ids.entries) e)) (filter_map (held_at rows side q) (drop n rows.edges.entries))) (sym here)
+
+-- past the last that passes none does
+pub last_no-past : {K : Type 0} (test : K → Bool) (ks : List K) (m j : ℕ) (k : K) → slice_get ks j ≡ Some k → j < m → last_no test (take m ks) ≤ j → test k ≡ false
+last_no-past test [] m j k at below le = cc
+last_no-past test (x ∷ xs) zero j k at below le = absurd (omega (arith, below))
+last_no-past test (x ∷ xs) (suc m) zero k at below le = by (test x) refl (last_no test (take m xs)) refl
+  where
+    by : (b : Bool) → test x ≡ b → (n : ℕ) → last_no test (take m xs) ≡ n → test k ≡ false
+    by false is n last = ap test (let same : k ≡ x = cc in same) ∙ is
+    by true is zero last =
+        let one : or_first (test x) (last_no test (take m xs)) ≡ 1 = λ j. or_first (is j) (last j) in
+        absurd (omega (arith, le, one))
+    by true is (suc n) last =
+        let more : or_first (test x) (last_no test (take m xs)) ≡ suc (suc n) = λ j. or_first (is j) (last j) in
+        absurd (omega (arith, le, more))
+last_no-past test (x ∷ xs) (suc m) (suc j) k at below le = last_no-past test xs m j k at (omega (arith, below)) (by (test x) refl (last_no test (take m xs)) refl)
+  where
+    by : (b : Bool) → test x ≡ b → (n : ℕ) → last_no test (take m xs) ≡ n → last_no test (take m xs) ≤ j
+    by b is zero last = omega (arith, last)
+    by b is (suc n) last =
+        let more : or_first (test x) (last_no test (take m xs)) ≡ suc (suc n) = λ j. or_first (is j) (last j) in
+        omega (arith, le, last, more)
 
 -- an item more of a list that is read from its end
 pub reverse-cons : {X : Type 0} (old now : List X) (o : Option X) (done more : List X) → now ≡ old ++ reverse done → more ≡ cons_option o done → now ++ option_to_list o ≡ old ++ reverse more

@@ -1,15 +1,15 @@
 -- Items with keys of their own, which stand in one order alone.
-use Rattle.std.proofs.Common.{◌≡◌, ◌+◌, ◌<◌, List, [], ◌∷◌, Some, refl, sym, ◌∙◌, ap, subst, arith, length, map, get_or}
+use Rattle.std.proofs.Common.{◌≡◌, ◌↔◌, ◌+◌, ◌<◌, List, [], ◌∷◌, Some, refl, sym, ◌∙◌, ap, subst, arith, length, map, get_or}
 use Rattle.std.proofs.lemmas.List.{get_or-map, length-map}
 use Rattle.std.proofs.lemmas.List.Elements.{All-head, All-tail, All-map, All-weaker, All-contains_itself}
-use Rattle.std.proofs.lemmas.List.Sorted.{IsPermutation-map, All-permutation, list_any-IsPermutation}
+use Rattle.std.proofs.lemmas.List.Sorted.{Contains-permutation, IsPermutation-sym, IsPermutation-map, All-permutation, list_any-IsPermutation}
 use Rattle.std.proofs.lemmas.Map.Keys.{IsDistinct-from_sorted, IsDistinct-IsPermutation}
 use Rattle.std.proofs.lemmas.Map.Lookups.{btree_set_from_contains, CmpEqualImpliesEq}
 use Rattle.std.proofs.lemmas.Map.Views.{lookup-from_Contains}
 use Rattle.std.specs.Cmp.{IsTotalOrder, eq_by_cmp_equiv}
 use Rattle.std.specs.declared.cmp.Ordering.{Ordering}
 use Rattle.std.specs.declared.cmp.Ordering.TheVariants.{Less, Equal, Greater}
-use Rattle.std.specs.List.{All, Contains}
+use Rattle.std.specs.List.{All, Contains, IsDistinct}
 use Rattle.std.specs.List.Sorted.{IsPermutation, IsSorted, IsSortedByKey, IsStrictlySortedBy}
 use Rattle.std.specs.Map.{keys_of, lookup}
 use Rattle.std.specs.Option.{option_map, unwrap_or}
@@ -50,6 +50,14 @@ module _ {X K : Type 0} (key : X → K) {cmp : K → K → Ordering} (o : IsTota
       let here : get_or (map key (x ∷ xs)) k d ≡ key (get_or (x ∷ xs) k x) = get_or-map key (x ∷ xs) k x d (omega (arith, within)) in
       let next : get_or (map key (x ∷ xs)) (k + 1) d ≡ key (get_or (x ∷ xs) (k + 1) x) = get_or-map key (x ∷ xs) (k + 1) x d within in
       ap (λ (n : K). is_lt (cmp n (get_or (map key (x ∷ xs)) k d))) next ∙ ap (λ (h : K). is_lt (cmp (key (get_or (x ∷ xs) (k + 1) x)) h)) here ∙ up k x low within
+
+  -- items that are listed exactly, with keys of their own, are so in the order of their keys too
+  pub exact_in_order : (P : X → Type 0) (xs ys : List X) → ((x : X) → Contains xs x ↔ P x) → IsDistinct (eq_by_cmp cmp) (map key xs) → IsPermutation xs ys → IsSortedByKey key cmp ys
+      → ((x : X) → Contains ys x ↔ P x) × IsStrictlySortedBy cmp (map key ys)
+  exact_in_order P xs ys are apart same up = (
+      (λ x. ((λ there. (are x).0 (Contains-permutation ys xs x (IsPermutation-sym xs ys same) there)), (λ is. Contains-permutation xs ys x same ((are x).1 is)))),
+      sorted_apart o (map key ys) (keys_sorted ys up) (IsDistinct-IsPermutation (eq_by_cmp cmp) (ties_flip o) (map key xs) (map key ys) (IsPermutation-map key xs ys same) apart),
+  )
 
   module _ (f : K → X) where
     -- items that their keys tell

@@ -10,15 +10,18 @@ mod Filters
 mod Gathered
 pub mod Gone
 pub mod GraphAdded
+pub mod GraphChanged
 pub mod GraphCopied
 pub mod GraphEdges
 pub mod GraphEndings
 pub mod GraphEnds
 pub mod GraphEntities
 pub mod GraphGrown
+pub mod GraphLed
 pub mod GraphLists
 pub mod GraphNames
 pub mod GraphPlaces
+pub mod GraphSettled
 pub mod GraphWalks
 mod InOrder
 mod Inserted
@@ -28,6 +31,7 @@ mod Leaving
 pub mod Listed
 mod Permuted
 mod Placed
+pub mod Published
 mod RankedIn
 mod Reached
 mod ShardEdges
@@ -37,4 +41,5 @@ pub mod Steps
 mod Targets
 mod TargetsOf
 pub mod TouchLaws
+pub mod TouchedRows
 mod Touching

@@ -3,7 +3,7 @@ use Rattle.std.specs.Prelude.{ℕ, zero, suc, Bool, true, false, not, nat_le, �
 use Rattle.std.specs.BTreeMap.{is_at}
 use Rattle.std.specs.BTreeSet.{contains}
 use Rattle.std.specs.declared.cmp.Ordering.{Ordering}
-use Rattle.std.specs.List.{IsDistinct, AllByRecursion, filter_map}
+use Rattle.std.specs.List.{Contains, IsDistinct, AllByRecursion, filter_map}
 use Rattle.std.specs.Map.{keys_of}
 use Rattle.std.specs.Option.{option_map, option_map_or, option_and_then}
 use Rattle.std.specs.Ordering.{nat_cmp, ordering_then, eq_by_cmp}
@@ -29,6 +29,10 @@ use Rattle.uni_table.specs.declared.graph.numbers.Source.{Source}
 use Rattle.uni_table.specs.declared.graph.numbers.Node.{Node}
 use Rattle.uni_table.specs.declared.graph.numbers.EdgeNo.{EdgeNo}
 use Rattle.uni_table.specs.declared.graph.numbers.Slot.{Slot}
+use Rattle.uni_table.specs.declared.graph.numbers.Before.{Before}
+use Rattle.uni_table.specs.declared.graph.numbers.Before.TheVariants as before
+use Rattle.uni_table.specs.declared.graph.numbers.EntityBefore.{EntityBefore}
+use Rattle.uni_table.specs.declared.graph.numbers.EntityBefore.TheVariants as entity_then
 use Rattle.uni_table.specs.declared.graph.numbers.SlotState.{SlotState}
 use Rattle.uni_table.specs.declared.graph.numbers.SlotState.TheVariants.{Gone, Public, Only, Circle}
 use Rattle.uni_table.specs.declared.graph.numbers.Side.{Side}
@@ -58,13 +62,83 @@ audience_named sources (Circle n) = Some (circle_named (source_named sources n))
 abbrev pub row_of : List Source → SlotState → ℕ → Option EdgeRow
 row_of sources state end = option_map (λ audience. record { audience = audience; end = end }) (audience_named sources state)
 
+-- what a batch finds at an edge, told without what stands there now
+unfoldable pub stood : Before → SlotState → ℕ → Before
+stood before.Same Gone end = before.Gone
+stood before.Same Public end = before.Public end
+stood before.Same Only end = before.Only end
+stood before.Same (Circle n) end = before.Circle n end
+stood before.Gone state end = before.Gone
+stood (before.Public until) state end = before.Public until
+stood (before.Only until) state end = before.Only until
+stood (before.Circle n until) state end = before.Circle n until
+
+abbrev pub is_same : Before → Bool
+is_same before.Same = true
+is_same before.Gone = false
+is_same (before.Public end) = false
+is_same (before.Only end) = false
+is_same (before.Circle n end) = false
+
+-- an edge after the batch has written its state and its end
+abbrev pub written : Slot → SlotState → ℕ → Slot
+written slot state end = record slot { state = state; end = end; before = stood slot.before slot.state slot.end }
+
+-- an edge that the batch has not touched, and such an id
+abbrev pub settled : Slot → Slot
+settled slot = record slot { before = before.Same }
+
+abbrev pub settled_entity : Node → Node
+settled_entity node = record node { before = entity_then.Same }
+
+-- the row of an edge at the last publish, if it was not gone
+abbrev pub row_before : List Source → Before → Option EdgeRow → Option EdgeRow
+row_before sources before.Same now = now
+row_before sources before.Gone now = None
+row_before sources (before.Public end) now = row_of sources Public end
+row_before sources (before.Only end) now = row_of sources Only end
+row_before sources (before.Circle n end) now = row_of sources (Circle n) end
+
+-- what a batch finds at an id, told without what it is now
+unfoldable pub stood_entity : EntityBefore → Option EntityRow → EntityBefore
+stood_entity entity_then.Same None = entity_then.Absent
+stood_entity entity_then.Same (Some row) = entity_then.Present row
+stood_entity entity_then.Absent now = entity_then.Absent
+stood_entity (entity_then.Present row) now = entity_then.Present row
+
+abbrev pub is_same_entity : EntityBefore → Bool
+is_same_entity entity_then.Same = true
+is_same_entity entity_then.Absent = false
+is_same_entity (entity_then.Present row) = false
+
+-- an id after the batch has written its entity
+abbrev pub written_entity : Node → Option EntityRow → Node
+written_entity node row = record node { row = row; before = stood_entity node.before node.row }
+
+-- the entity of an id at the last publish, if it was one
+abbrev pub entity_then_of : EntityBefore → Option EntityRow → Option EntityRow
+entity_then_of entity_then.Same now = now
+entity_then_of entity_then.Absent now = None
+entity_then_of (entity_then.Present row) now = Some row
+
+abbrev pub entity_before : Node → Option EntityRow
+entity_before node = entity_then_of node.before node.row
+
 -- an edge with its row, if it is not gone
 abbrev pub slot_named : List Source → List ℕ → EdgeNo × Slot → EdgeRef × Option EdgeRow
 slot_named sources ids e = (edge_named sources ids e.0, row_of sources e.1.state e.1.end)
 
+-- and with its row at the last publish
+abbrev pub slot_before : List Source → List ℕ → EdgeNo × Slot → EdgeRef × Option EdgeRow
+slot_before sources ids e = (edge_named sources ids e.0, row_before sources e.1.before (row_of sources e.1.state e.1.end))
+
 -- an id with its entity, if it is one
 abbrev pub node_named : ℕ × Node → ℕ × Option EntityRow
 node_named e = (e.0, e.1.row)
+
+-- and with its entity at the last publish
+abbrev pub node_before : ℕ × Node → ℕ × Option EntityRow
+node_before e = (e.0, entity_before e.1)
 
 -- all edges, gone or not
 abbrev pub slots_named : Rows → List (EdgeRef × Option EdgeRow)
@@ -77,6 +151,13 @@ held_by e = option_map (λ row. record { edge = e.0; audience = row.audience }) 
 -- what the rows stand for
 abbrev pub contents_of : Rows → Contents
 contents_of rows = record { entities = ordered nat_cmp (map node_named rows.ids.entries); edges = ordered edge_cmp (slots_named rows) }
+
+-- what they stood for at the last publish
+abbrev pub published_of : Rows → Contents
+published_of rows = record {
+  entities = ordered nat_cmp (map node_before rows.ids.entries);
+  edges = ordered edge_cmp (map (slot_before (keys_of rows.sources.entries) (keys_of rows.ids.entries)) rows.edges.entries);
+}
 
 -- whether a row is an entity, and whether it is an edge that is not gone
 abbrev pub is_entity : Node → Bool
@@ -112,18 +193,41 @@ IsCircleKnown sources Public = Unit {0}
 IsCircleKnown sources Only = Unit {0}
 IsCircleKnown sources (Circle n) = n < sources
 
+abbrev pub IsBeforeKnown : ℕ → Before → Type 0
+IsBeforeKnown sources before.Same = Unit {0}
+IsBeforeKnown sources before.Gone = Unit {0}
+IsBeforeKnown sources (before.Public end) = Unit {0}
+IsBeforeKnown sources (before.Only end) = Unit {0}
+IsBeforeKnown sources (before.Circle n end) = n < sources
+
 pub record IsKnown (sources ids : ℕ) (e : EdgeNo × Slot) : Type 0 where
   pub source : e.0.source < sources
   pub target : e.0.target < ids
   pub circle : IsCircleKnown sources e.1.state
+  pub before : IsBeforeKnown sources e.1.before
+
+-- The places of the rows that a batch touched, among all: each such row has its place there once, with room
+-- for the places of all.
+pub record AreTouched {K V : Type 0} (same : V → Bool) (es : List (K × V)) (places : List ℕ) (room : ℕ) : Type 0 where
+  pub roomy : length es ≤ room
+  pub counted : length places + count_of same es ≡ length es
+  pub listed : AtEach (λ i e. same e.1 ≡ false → Contains places i) es
+  pub marked : (i : ℕ) → Contains places i → (e : K × V) × (slice_get es i ≡ Some e) × (same e.1 ≡ false)
+  pub apart : IsDistinct nat_eq places
 
 -- ends and numbers in the order of the ends
 abbrev pub end_cmp : ℕ × ℕ → ℕ × ℕ → Ordering
 end_cmp a b = ordering_then (nat_cmp a.0 b.0) (nat_cmp a.1 b.1)
 
+-- one place fewer is left, or there was none
+abbrev pub HasSettled : Bool → List ℕ → List ℕ → Type 0
+HasSettled true old new = length new + 1 ≡ length old
+HasSettled false old new = (old ≡ []) × (new ≡ [])
+
 -- what the rows keep: numbers are those of rows; each edge is chained to the last earlier one with the same
 -- target, and to that with the same source, and the chains start at the last of all; no two ids, sources or
--- edges are the same; what lives is counted; and each edge that lives and ends stands among the ends
+-- edges are the same; what lives is counted; each edge that lives and ends stands among the
+-- ends; and what the batch touched is listed
 pub record IsRows (rows : Rows) : Type 0 where
   pub known : AtEach (λ i e. IsKnown (length rows.sources.entries) (length rows.ids.entries) e) rows.edges.entries
   pub chains : (side : Side) → AtEach (λ i e. next_at side e.1 ≡ last_no (has_at side (no_at side e.0)) (take i (keys_of rows.edges.entries))) rows.edges.entries
@@ -137,6 +241,8 @@ pub record IsRows (rows : Rows) : Type 0 where
   pub entity_count : rows.entity_count ≡ count_of is_entity rows.ids.entries
   pub edge_count : rows.edge_count ≡ count_of (λ slot. is_live slot.state) rows.edges.entries
   pub ended : AtEach (λ i e. is_live e.1.state ≡ true → 0 < e.1.end → contains end_cmp rows.ends (e.1.end, i + 1) ≡ true) rows.edges.entries
+  pub touched_ids : AreTouched (λ node. is_same_entity node.before) rows.ids.entries rows.touched_ids.items rows.touched_ids.cap
+  pub touched_edges : AreTouched (λ slot. is_same slot.before) rows.edges.entries rows.touched_edges.items rows.touched_edges.cap
 
 -- a map after a key was looked up and added where it was new
 abbrev pub Grows : {K V : Type 0} → List (K × V) → List (K × V) → K → V → Type 0
@@ -146,6 +252,7 @@ Grows old new k v = (new ≡ old) ⊎ (new ≡ old ++ (k, v) ∷ [])
 pub record IsQuiet (old new : Rows) : Type 0 where
   pub kept : IsRows new
   pub same : contents_of new ≡ contents_of old
+  pub published : published_of new ≡ published_of old
   pub edges : new.edges.entries ≡ old.edges.entries
   pub sources : AtEach (λ i k. slice_get (keys_of new.sources.entries) i ≡ Some k) (keys_of old.sources.entries)
   pub ids : AtEach (λ i k. slice_get (keys_of new.ids.entries) i ≡ Some k) (keys_of old.ids.entries)
@@ -194,7 +301,7 @@ all_held rows side q = filter_map (held_at rows side q) rows.edges.entries
 
 -- an edge that is marked as gone
 abbrev pub gone : EdgeNo × Slot → EdgeNo × Slot
-gone e = (e.0, record e.1 { state = Gone; end = 0 })
+gone e = (e.0, written e.1 Gone 0)
 
 -- an edge that is marked as gone, if it has a number at an end
 abbrev pub gone_at : Side → ℕ → EdgeNo × Slot → EdgeNo × Slot

@@ -1,9 +1,12 @@
 pub mod Added
+pub mod Changes
 pub mod Contents
 pub mod Example
 pub mod Commands
+pub mod GraphChanges
 pub mod GraphKeys
 pub mod GraphRows
+pub mod GraphState
 pub mod Journals
 pub mod Laws
 pub mod Lists

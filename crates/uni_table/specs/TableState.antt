@@ -10,12 +10,15 @@ use Rattle.uni_base.specs.declared.limits.Limits.{Limits}
 use Rattle.uni_base.specs.EdgeOrder.{edge_cmp}
 use Rattle.uni_schema.specs.Schema.{Declarations, type_at, is_index}
 use Rattle.uni_table.specs.Contents.{Contents, key_stands, target_stands, count_from}
+use Rattle.uni_table.specs.GraphState.{GraphState}
 
--- a table with the schema and the limits that it was made with
+-- a table with the schema and the limits that it was made with, what it holds, and what it held as its last
+-- batch ended
 pub record TableState : Type 0 where
   pub schema : Declarations
   pub limits : Limits
   pub contents : Contents
+  pub published : Contents
 
 -- each edge starts where edges of its type may
 abbrev pub KeysStand : Declarations → Contents → Type 0
@@ -38,3 +41,8 @@ pub record IsKept (schema : Declarations) (limits : Limits) (table : Contents) :
   pub entities : IsStrictlySortedBy nat_cmp (keys_of table.entities)
   pub edges : IsStrictlySortedBy edge_cmp (keys_of table.edges)
   pub forward : (number : ℕ) (key : Key) → is_forward schema number ≡ true → count_from table number key ≤ limits.forward
+
+-- so does what it held as its last batch ended
+pub record AreKept (schema : Declarations) (limits : Limits) (graph : GraphState) : Type 0 where
+  pub contents : IsKept schema limits graph.contents
+  pub published : IsKept schema limits graph.published

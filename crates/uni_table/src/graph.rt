@@ -1,15 +1,19 @@
 ghost use Rattle.std.specs.Prelude.{◌≡◌, ◌<◌, ◌==◌, ◌&&◌, not, length, map, filter, IfOk, OnOk, OnErr, IsPermutation};
 ghost use Rattle.uni_table.specs.Added.{Adds};
+ghost use Rattle.uni_table.specs.Changes.{HasEdgeChanges, HasEntityChanges};
 
+mod batches;
+mod changes;
 mod edges;
 mod ends;
 mod entities;
 mod lists;
 mod numbers;
 mod rows;
+mod touched;
 mod walks;
 
-use crate::{EdgeRow, EntityRow};
+use crate::{EdgeChange, EdgeRow, EntityChange, EntityRow};
 use rows::Rows;
 use std::alloc::{AllocError, Global};
 use std::marker::Model;
@@ -17,19 +21,20 @@ use uni_base::{DocKey, EdgeRef, EntityId, Held, Key};
 use uni_schema::Schema;
 
 /// Entities by id and edges by type, key and target, with the edges of each type and key, those that
-/// reach each id, and those that end. Contracts see both as ordered maps.
+/// reach each id, and those that end. Contracts see both as ordered maps, as they are and as they were when
+/// the last batch ended.
 #[derive(Drop)]
 pub(crate) struct Graph {
     rows: Rows,
 }
 
 impl Model for Graph {
-    ghost use Rattle.uni_table.specs.Contents.{Contents};
-    ghost use Rattle.uni_table.specs.GraphRows.{contents_of, IsRows};
+    ghost use Rattle.uni_table.specs.GraphRows.{contents_of, published_of, IsRows};
+    ghost use Rattle.uni_table.specs.GraphState.{GraphState};
 
-    ghost Value = { Contents };
+    ghost Value = { GraphState };
 
-    ghost view = { λ g. contents_of g.rows };
+    ghost view = { λ g. record { contents = contents_of g.rows; published = published_of g.rows } };
 
     ghost invariant = { λ g. IsRows g.rows };
 }
@@ -48,7 +53,7 @@ impl Graph {
 
     /// Nothing.
     pub fn new(alloc: Global) -> Graph
-        ensures { result ≡ empty }
+        ensures { result ≡ record { contents = empty; published = empty } }
     {
         Graph {
             rows: Rows::new(alloc),
@@ -57,42 +62,42 @@ impl Graph {
 
     /// The entity of an id. None where there is none.
     pub fn entity(&self, id: EntityId) -> Option<EntityRow>
-        ensures { result ≡ entity_at self.now id }
+        ensures { result ≡ entity_at self.now.contents id }
     {
         self.rows.entity(id)
     }
 
     /// The row of an edge. None where there is none.
     pub fn edge(&self, edge: &EdgeRef) -> Option<EdgeRow>
-        ensures { result ≡ edge_at self.now edge.now }
+        ensures { result ≡ edge_at self.now.contents edge.now }
     {
         self.rows.edge(edge)
     }
 
     /// How many entities there are.
     pub fn entities(&self) -> u64
-        ensures { result ≡ length self.now.entities }
+        ensures { result ≡ length self.now.contents.entities }
     {
         self.rows.entity_count
     }
 
     /// How many edges there are.
     pub fn edges(&self) -> u64
-        ensures { result ≡ length self.now.edges }
+        ensures { result ≡ length self.now.contents.edges }
     {
         self.rows.edge_count
     }
 
     /// How many edges of a type and key there are.
     pub fn count_from(&self, type_no: u16, key: &Key) -> u64
-        ensures { result ≡ count_from self.now type_no key.now }
+        ensures { result ≡ count_from self.now.contents type_no key.now }
     {
         self.rows.count_from(type_no, key)
     }
 
     /// Puts an entity, or another row in place of the one that it has.
     pub fn put_entity(&mut self, id: EntityId, row: EntityRow) -> Result<(), AllocError>
-        ensures ok { OnOk result (self.new ≡ with_entity self.old id row) }
+        ensures ok { OnOk result (self.new ≡ record self.old { contents = with_entity self.old.contents id row }) }
         ensures err { OnErr result (self.new ≡ self.old) }
     {
         self.rows.put_entity(id, row)
@@ -100,7 +105,7 @@ impl Graph {
 
     /// Puts an edge, or another row in place of the one that it has.
     pub fn put_edge(&mut self, edge: &EdgeRef, row: EdgeRow) -> Result<(), AllocError>
-        ensures ok { OnOk result (self.new ≡ with_edge self.old edge.now row) }
+        ensures ok { OnOk result (self.new ≡ record self.old { contents = with_edge self.old.contents edge.now row }) }
         ensures err { OnErr result (self.new ≡ self.old) }
     {
         self.rows.put_edge(edge, &row)
@@ -108,56 +113,56 @@ impl Graph {
 
     /// Takes an entity out, and no edge.
     pub fn remove_entity(&mut self, id: EntityId)
-        ensures { self.new ≡ without_row self.old id }
+        ensures { self.new ≡ record self.old { contents = without_row self.old.contents id } }
     {
         self.rows.remove_entity(id);
     }
 
     /// Takes an edge out.
     pub fn remove_edge(&mut self, edge: &EdgeRef)
-        ensures { self.new ≡ without_edge self.old edge.now }
+        ensures { self.new ≡ record self.old { contents = without_edge self.old.contents edge.now } }
     {
         self.rows.remove_edge(edge);
     }
 
     /// Takes out the edges of a type and key.
     pub fn remove_from(&mut self, type_no: u16, key: &Key)
-        ensures { self.new ≡ without_from self.old type_no key.now }
+        ensures { self.new ≡ record self.old { contents = without_from self.old.contents type_no key.now } }
     {
         self.rows.remove_from(type_no, key);
     }
 
     /// Takes out the edges that reach an id.
     pub fn remove_into(&mut self, id: EntityId)
-        ensures { self.new ≡ without_into self.old id }
+        ensures { self.new ≡ record self.old { contents = without_into self.old.contents id } }
     {
         self.rows.remove_into(id);
     }
 
     /// Takes out the edges that end at a publish or before it.
     pub fn end(&mut self, publish: u64)
-        ensures { self.new ≡ ended self.old publish }
+        ensures { self.new ≡ record self.old { contents = ended self.old.contents publish } }
     {
         self.rows.end(publish);
     }
 
     /// Adds the edges of a type and key to a list, in some order.
     pub fn add_from(&self, type_no: u16, key: &Key, held: &mut Vec<Held>) -> Result<(), AllocError>
-        ensures { OnOk result (Adds held.old.items held.new.items (map held_of (filter (λ e. starts_at type_no key.now e.0) self.now.edges))) }
+        ensures { OnOk result (Adds held.old.items held.new.items (map held_of (filter (λ e. starts_at type_no key.now e.0) self.now.contents.edges))) }
     {
         self.rows.add_from(type_no, key, held)
     }
 
     /// Adds the edges that reach an id to a list, in some order.
     pub fn add_into(&self, id: EntityId, held: &mut Vec<Held>) -> Result<(), AllocError>
-        ensures { OnOk result (Adds held.old.items held.new.items (map held_of (filter (λ e. reaches id e.0) self.now.edges))) }
+        ensures { OnOk result (Adds held.old.items held.new.items (map held_of (filter (λ e. reaches id e.0) self.now.contents.edges))) }
     {
         self.rows.add_into(id, held)
     }
 
     /// The edges that end at a publish or before it, in some order.
     pub fn ending(&self, alloc: Global, publish: u64) -> Result<Vec<Ending>, AllocError>
-        ensures { IfOk result (λ endings. IsPermutation (map ending_of (filter (λ e. has_ended publish e.1) self.now.edges)) endings.items) }
+        ensures { IfOk result (λ endings. IsPermutation (map ending_of (filter (λ e. has_ended publish e.1) self.now.contents.edges)) endings.items) }
     {
         self.rows.ending(alloc, publish)
     }
@@ -171,9 +176,31 @@ impl Graph {
         shard: u32,
     ) -> Result<Vec<DocKey>, AllocError>
         requires { vertical < length schema.now.verticals }
-        ensures { IfOk result (λ docs. IsPermutation (map doc_of (filter (is_of_shard schema.now vertical shard) self.now.entities)) docs.items) }
+        ensures { IfOk result (λ docs. IsPermutation (map doc_of (filter (is_of_shard schema.now vertical shard) self.now.contents.entities)) docs.items) }
     {
         self.rows.members(alloc, schema, vertical, shard)
+    }
+
+    /// The entities that differ from what they were as the last batch ended, in some order.
+    pub fn entity_changes(&self, alloc: Global) -> Result<Vec<EntityChange>, AllocError>
+        ensures { IfOk result (λ changes. HasEntityChanges self.now.published self.now.contents changes.items) }
+    {
+        self.rows.entity_changes(alloc)
+    }
+
+    /// The edges that differ from what they were then, or lead to an entity with another rank, in some
+    /// order.
+    pub fn edge_changes(&self, alloc: Global) -> Result<Vec<EdgeChange>, AllocError>
+        ensures { IfOk result (λ changes. HasEdgeChanges self.now.published self.now.contents changes.items) }
+    {
+        self.rows.edge_changes(alloc)
+    }
+
+    /// Begins the next batch: what it holds now is what it held as the last one ended.
+    pub fn begin_batch(&mut self)
+        ensures { self.new ≡ record self.old { published = self.old.contents } }
+    {
+        self.rows.begin_batch();
     }
 
     /// A copy of all rows.

@@ -2,6 +2,7 @@
 //! read off.
 #![tactic(auto)]
 
+mod change;
 mod command;
 pub mod examples;
 mod graph;
@@ -11,6 +12,7 @@ mod table;
 #[cfg(test)]
 mod tests;
 
+pub use change::{EdgeChange, EdgeChanges, EntityChange, EntityChanges};
 pub use command::{AudienceText, Command, EdgeRow, EntityRow};
 pub use refusal::FeedRefusal;
 pub use table::Table;

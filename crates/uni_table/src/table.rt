@@ -8,6 +8,7 @@ use std::sync::Arc;
 use uni_base::{Audience, EdgeRef, EntityId, Limits};
 use uni_schema::Schema;
 
+mod changes;
 mod circles;
 mod gone;
 mod lists;
@@ -27,13 +28,13 @@ pub struct Table {
 
 impl Model for Table {
     ghost use Rattle.std.specs.Arc.{arc_value};
-    ghost use Rattle.uni_table.specs.TableState.{TableState, IsKept};
+    ghost use Rattle.uni_table.specs.TableState.{TableState, AreKept};
 
     ghost Value = { TableState };
 
-    ghost view = { λ t. record { schema = arc_value t.schema; limits = t.limits; contents = t.graph } };
+    ghost view = { λ t. record { schema = arc_value t.schema; limits = t.limits; contents = t.graph.contents; published = t.graph.published } };
 
-    ghost invariant = { λ t. IsKept (arc_value t.schema) t.limits t.graph };
+    ghost invariant = { λ t. AreKept (arc_value t.schema) t.limits t.graph };
 }
 
 impl Table {
@@ -44,7 +45,7 @@ impl Table {
 
     /// The empty table.
     pub fn new(alloc: Global, schema: Arc<Schema>, limits: Limits) -> Table
-        ensures { result ≡ record { schema = arc_value schema; limits = limits; contents = empty } }
+        ensures { result ≡ record { schema = arc_value schema; limits = limits; contents = empty; published = empty } }
     {
         Table {
             alloc,
@@ -97,6 +98,14 @@ impl Table {
         self.graph.end(publish);
     }
 
+    /// Begins the next batch: what the table holds now is what it held as the last one ended. It costs the
+    /// rows that the batch touched, and takes no memory.
+    pub fn begin_batch(&mut self)
+        ensures { self.new ≡ record self.old { published = self.old.contents } }
+    {
+        self.graph.begin_batch();
+    }
+
     /// A table with the same rows, schema and limits.
     pub fn copy(&self) -> Result<Table, AllocError>
         ensures { IfOk result (λ copy. copy ≡ self.now) }
@@ -141,6 +150,7 @@ impl Table {
     pub fn schema(&self) -> &Arc<Schema>
         ensures schema { arc_value result.now ≡ self.now.schema }
         ensures kept { IsKept self.now.schema self.now.limits self.now.contents }
+        ensures published_kept { IsKept self.now.schema self.now.limits self.now.published }
     {
         &self.schema
     }

@@ -11,27 +11,27 @@ ghost use Rattle.uni_table.specs.declared.graph.numbers.Node.{Node};
 ghost use Rattle.uni_table.specs.declared.graph.numbers.Slot.{Slot};
 ghost use Rattle.uni_table.specs.declared.graph.numbers.Source.{Source};
 ghost use Rattle.uni_table.specs.Contents.{edge_at, with_edge, without_edge};
-ghost use Rattle.uni_table.specs.GraphRows.{contents_of, edge_named, row_of, slot_named, slots_named, with_edge_row, is_live, end_cmp, IsRows, IsQuiet, IsCircleKnown, IsNoted};
+ghost use Rattle.uni_table.specs.GraphRows.{contents_of, published_of, written, is_same, edge_named, row_of, slot_named, slots_named, with_edge_row, is_live, end_cmp, IsRows, IsQuiet, IsCircleKnown, IsNoted};
 
 use super::entities::recount;
-use super::numbers::{EdgeNo, Node, Side, Slot, SlotState, Source};
+use super::numbers::{Before, EdgeNo, Node, Side, Slot, SlotState, Source};
 use super::rows::{MAX_ROWS, Rows};
+use super::touched::{make_room, note_touched};
 use crate::EdgeRow;
 use indexmap::IndexMap;
 use std::alloc::AllocError;
 use uni_base::{EdgeRef, EntityId};
 
-// Writes the state and the end of an edge, and answers whether it was live.
+// Writes the state and the end of an edge, which the batch touches, and answers whether it was live.
 fn write_slot(edges: &mut IndexMap<EdgeNo, Slot>, index: usize, state: SlotState, end: u64) -> bool
     requires { index < length edges.old.entries }
-    ensures entries { (n : EdgeNo) (slot : Slot) → slice_get edges.old.entries index ≡ Some (n, slot) → edges.new.entries ≡ set_value_at edges.old.entries index (record slot { state = state; end = end }) }
+    ensures entries { (n : EdgeNo) (slot : Slot) → slice_get edges.old.entries index ≡ Some (n, slot) → edges.new.entries ≡ set_value_at edges.old.entries index (written slot state end) }
     ensures was { (n : EdgeNo) (slot : Slot) → slice_get edges.old.entries index ≡ Some (n, slot) → result ≡ is_live slot.state }
 {
     match edges.get_index_mut(index) {
         Some(slot) => {
             let was = slot.state.is_live();
-            slot.state = state;
-            slot.end = end;
+            *slot = slot.written(state, end);
             was
         }
         None => false,
@@ -85,6 +85,17 @@ impl Rows {
         }
     }
 
+    // Whether the batch has not touched an edge.
+    fn is_untouched(&self, index: usize) -> bool
+        requires { index < length self.now.edges.entries }
+        ensures { (n : EdgeNo) (slot : Slot) → slice_get self.now.edges.entries index ≡ Some (n, slot) → result ≡ is_same slot.before }
+    {
+        match self.edges.get_index(index) {
+            Some((_, slot)) => slot.before.is_same(),
+            None => false,
+        }
+    }
+
     // Writes the state and the end of an edge.
     pub(super) fn set_slot(&mut self, index: usize, state: SlotState, end: u64)
         requires kept { IsRows self.old }
@@ -96,9 +107,12 @@ impl Rows {
         ensures sources { self.new.sources ≡ self.old.sources }
         ensures ends { self.new.ends ≡ self.old.ends }
         ensures entity_count { self.new.entity_count ≡ self.old.entity_count }
-        ensures edges { (n : EdgeNo) (slot : Slot) → slice_get self.old.edges.entries index ≡ Some (n, slot) → self.new.edges.entries ≡ set_value_at self.old.edges.entries index (record slot { state = state; end = end }) }
+        ensures published { published_of self.new ≡ published_of self.old }
+        ensures edges { (n : EdgeNo) (slot : Slot) → slice_get self.old.edges.entries index ≡ Some (n, slot) → self.new.edges.entries ≡ set_value_at self.old.edges.entries index (written slot state end) }
         ensures set { (n : EdgeNo) (slot : Slot) → slice_get self.old.edges.entries index ≡ Some (n, slot) → contents_of self.new ≡ with_edge_row (contents_of self.old) (edge_named (keys_of self.old.sources.entries) (keys_of self.old.ids.entries) n) (row_of (keys_of self.old.sources.entries) state end) }
     {
+        let is_first = self.is_untouched(index);
+        note_touched(&mut self.touched_edges, index, is_first);
         let was = write_slot(&mut self.edges, index, state, end);
         self.edge_count = recount(self.edge_count, was, state.is_live());
     }
@@ -127,6 +141,7 @@ impl Rows {
         requires unused { NonePasses (is_at (edge_cmp (edge_named (keys_of self.old.sources.entries) (keys_of self.old.ids.entries) number))) (slots_named self.old) }
         requires noted { IsNoted self.old state end (length self.old.edges.entries) }
         ensures kept { IsRows self.new }
+        ensures published { published_of self.new ≡ published_of self.old }
         ensures ok { OnOk result (contents_of self.new ≡ with_edge_row (contents_of self.old) (edge_named (keys_of self.old.sources.entries) (keys_of self.old.ids.entries) number) (row_of (keys_of self.old.sources.entries) state end)) }
         ensures err { OnErr result (contents_of self.new ≡ contents_of self.old) }
     {
@@ -134,9 +149,11 @@ impl Rows {
         if index >= MAX_ROWS {
             return Err(AllocError);
         }
+        make_room(&mut self.touched_edges, index)?;
         let slot = Slot {
             state,
             end,
+            before: Before::Gone,
             next_into: self.last(Side::Target, number.target as usize),
             next_from: self.last(Side::Source, number.source as usize),
         };
@@ -145,6 +162,7 @@ impl Rows {
         write_last_into(&mut self.ids, number.target as usize, last);
         write_last_from(&mut self.sources, number.source as usize, last);
         self.edge_count += 1;
+        note_touched(&mut self.touched_edges, index, true);
         Ok(())
     }
 
@@ -154,6 +172,7 @@ impl Rows {
         requires index { index < length self.old.edges.entries }
         requires circle { IsCircleKnown (length self.old.sources.entries) state }
         ensures kept { IsRows self.new }
+        ensures published { published_of self.new ≡ published_of self.old }
         ensures ok { (n : EdgeNo) (slot : Slot) → slice_get self.old.edges.entries index ≡ Some (n, slot) → OnOk result (contents_of self.new ≡ with_edge_row (contents_of self.old) (edge_named (keys_of self.old.sources.entries) (keys_of self.old.ids.entries) n) (row_of (keys_of self.old.sources.entries) state end)) }
         ensures err { OnErr result (contents_of self.new ≡ contents_of self.old) }
     {
@@ -171,6 +190,7 @@ impl Rows {
         requires live { is_live state ≡ true }
         requires unused { NonePasses (is_at (edge_cmp (edge_named (keys_of self.old.sources.entries) (keys_of self.old.ids.entries) number))) (slots_named self.old) }
         ensures kept { IsRows self.new }
+        ensures published { published_of self.new ≡ published_of self.old }
         ensures ok { OnOk result (contents_of self.new ≡ with_edge_row (contents_of self.old) (edge_named (keys_of self.old.sources.entries) (keys_of self.old.ids.entries) number) (row_of (keys_of self.old.sources.entries) state end)) }
         ensures err { OnErr result (contents_of self.new ≡ contents_of self.old) }
     {
@@ -186,6 +206,7 @@ impl Rows {
     pub fn put_edge(&mut self, edge: &EdgeRef, row: &EdgeRow) -> Result<(), AllocError>
         requires { IsRows self.old }
         ensures kept { IsRows self.new }
+        ensures published { published_of self.new ≡ published_of self.old }
         ensures ok { OnOk result (contents_of self.new ≡ with_edge (contents_of self.old) edge.now row.now) }
         ensures err { OnErr result (contents_of self.new ≡ contents_of self.old) }
     {
@@ -201,6 +222,7 @@ impl Rows {
     pub fn remove_edge(&mut self, edge: &EdgeRef)
         requires { IsRows self.old }
         ensures kept { IsRows self.new }
+        ensures published { published_of self.new ≡ published_of self.old }
         ensures removed { contents_of self.new ≡ without_edge (contents_of self.old) edge.now }
     {
         if let Some(index) = self.find(edge) {

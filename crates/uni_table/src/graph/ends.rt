@@ -5,7 +5,7 @@ ghost use Rattle.std.specs.Option.{option_map_or, option_to_list};
 ghost use Rattle.uni_table.specs.declared.graph.numbers.EdgeNo.{EdgeNo};
 ghost use Rattle.uni_table.specs.declared.graph.numbers.Slot.{Slot};
 ghost use Rattle.uni_table.specs.Contents.{ended, has_ended};
-ghost use Rattle.uni_table.specs.GraphRows.{contents_of, ending_no, is_ended, row_no, IsFirstEnded, IsRows};
+ghost use Rattle.uni_table.specs.GraphRows.{contents_of, published_of, ending_no, is_ended, row_no, IsFirstEnded, IsRows};
 ghost use Rattle.uni_table.specs.Lists.{ending_of};
 
 use super::Ending;
@@ -90,6 +90,7 @@ impl Rows {
     fn mark_ended(&mut self, number: u32, publish: u64)
         requires { IsRows self.old }
         ensures kept { IsRows self.new }
+        ensures published { published_of self.new ≡ published_of self.old }
         ensures ends { self.new.ends ≡ self.old.ends }
         ensures marked { option_map_or (λ e. is_ended publish e.1) (row_no self.new.edges.entries number) false ≡ false }
         ensures same { ended (contents_of self.new) publish ≡ ended (contents_of self.old) publish }
@@ -104,6 +105,7 @@ impl Rows {
         requires kept { IsRows self.old }
         requires first { IsFirstEnded self.old publish (Some number) }
         ensures kept { IsRows self.new }
+        ensures published { published_of self.new ≡ published_of self.old }
         ensures same { ended (contents_of self.new) publish ≡ ended (contents_of self.old) publish }
         ensures fewer { length self.new.ends.keys + 1 ≡ length self.old.ends.keys }
     {
@@ -115,6 +117,7 @@ impl Rows {
     pub fn end(&mut self, publish: u64)
         requires { IsRows self.old }
         ensures kept { IsRows self.new }
+        ensures published { published_of self.new ≡ published_of self.old }
         ensures ended { contents_of self.new ≡ ended (contents_of self.old) publish }
     {
         while let Some(number) = self.first_ended(publish) {

@@ -7,10 +7,11 @@ ghost use Rattle.indexmap.specs.Layout.{set_value_at};
 ghost use Rattle.chained_rows.specs.Counts.{one_if};
 ghost use Rattle.uni_table.specs.Contents.{entity_at, with_entity, without_row};
 ghost use Rattle.uni_table.specs.declared.graph.numbers.Node.{Node};
-ghost use Rattle.uni_table.specs.GraphRows.{contents_of, with_entity_row, is_entity, member_of, IsRows};
+ghost use Rattle.uni_table.specs.GraphRows.{contents_of, published_of, written_entity, is_same_entity, with_entity_row, is_entity, member_of, IsRows};
 
 use super::numbers::Node;
 use super::rows::Rows;
+use super::touched::note_touched;
 use crate::EntityRow;
 use indexmap::IndexMap;
 use std::alloc::{AllocError, Global};
@@ -33,16 +34,16 @@ pub(super) fn as_count(live: bool) -> u64
     u64::from(live)
 }
 
-// Writes the entity of an id, or that it is none, and answers whether it was one.
+// Writes the entity of an id, which the batch touches, or that it is none, and answers whether it was one.
 fn write_row(ids: &mut IndexMap<EntityId, Node>, index: usize, row: Option<EntityRow>) -> bool
     requires { index < length ids.old.entries }
-    ensures entries { (id : ℕ) (node : Node) → slice_get ids.old.entries index ≡ Some (id, node) → ids.new.entries ≡ set_value_at ids.old.entries index (record node { row = row }) }
+    ensures entries { (id : ℕ) (node : Node) → slice_get ids.old.entries index ≡ Some (id, node) → ids.new.entries ≡ set_value_at ids.old.entries index (written_entity node row) }
     ensures was { (id : ℕ) (node : Node) → slice_get ids.old.entries index ≡ Some (id, node) → result ≡ is_entity node }
 {
     match ids.get_index_mut(index) {
         Some(node) => {
             let was = node.row.is_some();
-            node.row = row;
+            *node = node.written(row);
             was
         }
         None => false,
@@ -61,13 +62,27 @@ impl Rows {
         }
     }
 
+    // Whether the batch has not touched an id.
+    fn is_untouched_id(&self, index: usize) -> bool
+        requires { index < length self.now.ids.entries }
+        ensures { (id : ℕ) (node : Node) → slice_get self.now.ids.entries index ≡ Some (id, node) → result ≡ is_same_entity node.before }
+    {
+        match self.ids.get_index(index) {
+            Some((_, node)) => node.before.is_same(),
+            None => false,
+        }
+    }
+
     // Writes the entity of an id, or that it is none.
     fn set_entity(&mut self, index: usize, row: Option<EntityRow>)
         requires kept { IsRows self.old }
         requires index { index < length self.old.ids.entries }
         ensures kept { IsRows self.new }
+        ensures published { published_of self.new ≡ published_of self.old }
         ensures set { (id : ℕ) → slice_get (keys_of self.old.ids.entries) index ≡ Some id → contents_of self.new ≡ with_entity_row (contents_of self.old) id row }
     {
+        let is_first = self.is_untouched_id(index);
+        note_touched(&mut self.touched_ids, index, is_first);
         let was = write_row(&mut self.ids, index, row);
         self.entity_count = recount(self.entity_count, was, row.is_some());
     }
@@ -76,6 +91,7 @@ impl Rows {
     pub fn put_entity(&mut self, id: EntityId, row: EntityRow) -> Result<(), AllocError>
         requires { IsRows self.old }
         ensures kept { IsRows self.new }
+        ensures published { published_of self.new ≡ published_of self.old }
         ensures ok { OnOk result (contents_of self.new ≡ with_entity (contents_of self.old) id row) }
         ensures err { OnErr result (contents_of self.new ≡ contents_of self.old) }
     {
@@ -88,6 +104,7 @@ impl Rows {
     pub fn remove_entity(&mut self, id: EntityId)
         requires { IsRows self.old }
         ensures kept { IsRows self.new }
+        ensures published { published_of self.new ≡ published_of self.old }
         ensures removed { contents_of self.new ≡ without_row (contents_of self.old) id }
     {
         if let Some(index) = self.id_index(id) {

@@ -2,7 +2,7 @@
 ghost use Rattle.std.specs.Prelude.{◌≡◌, map, filter, OnOk};
 ghost use Rattle.uni_table.specs.Added.{Adds};
 ghost use Rattle.uni_table.specs.Contents.{count_from, reaches, starts_at, without_from, without_into};
-ghost use Rattle.uni_table.specs.GraphRows.{contents_of, IsRows};
+ghost use Rattle.uni_table.specs.GraphRows.{contents_of, published_of, IsRows};
 ghost use Rattle.uni_table.specs.Lists.{held_of};
 
 use super::numbers::Side;
@@ -48,6 +48,7 @@ impl Rows {
     pub fn remove_from(&mut self, type_no: u16, key: &Key)
         requires { IsRows self.old }
         ensures kept { IsRows self.new }
+        ensures published { published_of self.new ≡ published_of self.old }
         ensures removed { contents_of self.new ≡ without_from (contents_of self.old) type_no key.now }
     {
         if let Some(index) = self.source_index(type_no, key) {
@@ -59,6 +60,7 @@ impl Rows {
     pub fn remove_into(&mut self, id: EntityId)
         requires { IsRows self.old }
         ensures kept { IsRows self.new }
+        ensures published { published_of self.new ≡ published_of self.old }
         ensures removed { contents_of self.new ≡ without_into (contents_of self.old) id }
     {
         if let Some(index) = self.id_index(id) {

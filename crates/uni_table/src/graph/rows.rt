@@ -3,10 +3,11 @@ ghost use Rattle.std.specs.Prelude.{◌≡◌, ◌<◌, ◌^◌, true, None, Som
 ghost use Rattle.std.specs.Map.{keys_of};
 ghost use Rattle.indexmap.specs.IndexMap.{IsUnique};
 ghost use Rattle.uni_table.specs.Contents.{empty};
-ghost use Rattle.uni_table.specs.GraphRows.{contents_of, audience_named, last_at, IsRows, IsQuiet, IsNumbered, IsStateOf, IsCircleKnown, IsPlaceOf, IsIndexOf, Grows};
+ghost use Rattle.uni_table.specs.GraphRows.{contents_of, published_of, audience_named, last_at, IsRows, IsQuiet, IsNumbered, IsStateOf, IsCircleKnown, IsPlaceOf, IsIndexOf, Grows};
 ghost use Rattle.uni_table.specs.GraphKeys.{source_eq};
 
-use super::numbers::{EdgeNo, Node, Side, Slot, SlotState, Source};
+use super::numbers::{EdgeNo, EntityBefore, Node, Side, Slot, SlotState, Source};
+use super::touched::make_room;
 use indexmap::IndexMap;
 use std::alloc::{AllocError, Global};
 use std::collections::BTreeSet;
@@ -25,6 +26,9 @@ pub(crate) struct Rows {
     pub ends: BTreeSet<(u64, u32)>,
     pub entity_count: u64,
     pub edge_count: u64,
+    /// the places of the ids that the batch touched, and of the edges, with room for all
+    pub touched_ids: Vec<u32>,
+    pub touched_edges: Vec<u32>,
 }
 
 /// The greatest number of rows of a map.
@@ -58,6 +62,7 @@ impl Rows {
     pub fn new(alloc: Global) -> Rows
         ensures kept { IsRows result }
         ensures empty { contents_of result ≡ empty }
+        ensures published { published_of result ≡ empty }
     {
         Rows {
             ids: IndexMap::new(alloc),
@@ -66,6 +71,8 @@ impl Rows {
             ends: BTreeSet::new(alloc),
             entity_count: 0,
             edge_count: 0,
+            touched_ids: Vec::new(alloc),
+            touched_edges: Vec::new(alloc),
         }
     }
 
@@ -84,8 +91,10 @@ impl Rows {
         ensures quiet { IsQuiet self.old self.new }
         ensures number { IfOk result (λ n. slice_get (keys_of self.new.ids.entries) n ≡ Some id) }
     {
+        make_room(&mut self.touched_ids, self.ids.len())?;
         let node = Node {
             row: None,
+            before: EntityBefore::Same,
             last_edge: 0,
         };
         index_of(&mut self.ids, id, node)
@@ -206,7 +215,12 @@ impl Rows {
         requires { IsRows self.now }
         ensures kept { IfOk result IsRows }
         ensures same { IfOk result (λ copy. contents_of copy ≡ contents_of self.now) }
+        ensures published { IfOk result (λ copy. published_of copy ≡ published_of self.now) }
     {
+        let mut touched_ids = self.touched_ids.clone()?;
+        make_room(&mut touched_ids, self.ids.len())?;
+        let mut touched_edges = self.touched_edges.clone()?;
+        make_room(&mut touched_edges, self.edges.len())?;
         Ok(Rows {
             ids: self.ids.clone()?,
             sources: self.sources.clone()?,
@@ -214,6 +228,8 @@ impl Rows {
             ends: self.ends.clone()?,
             entity_count: self.entity_count,
             edge_count: self.edge_count,
+            touched_ids,
+            touched_edges,
         })
     }
 }

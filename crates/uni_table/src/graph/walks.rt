@@ -5,7 +5,7 @@ ghost use Rattle.std.specs.Option.{option_to_list};
 ghost use Rattle.uni_base.specs.declared.edge.Held.{Held};
 ghost use Rattle.uni_table.specs.declared.graph.numbers.EdgeNo.{EdgeNo};
 ghost use Rattle.uni_table.specs.declared.graph.numbers.Slot.{Slot};
-ghost use Rattle.uni_table.specs.GraphRows.{next_at, edge_named, held_by, slot_named, all_held, gone_at, is_live, IsRows};
+ghost use Rattle.uni_table.specs.GraphRows.{published_of, next_at, edge_named, held_by, slot_named, all_held, gone_at, is_live, IsRows};
 
 use super::entities::as_count;
 use super::numbers::{EdgeNo, Side, SlotState};
@@ -15,7 +15,7 @@ use uni_base::{EdgeRef, Held};
 
 impl Rows {
     // The number of the last earlier edge with the same number at an end, or 0.
-    fn next(&self, side: Side, index: usize) -> u32
+    pub(super) fn next(&self, side: Side, index: usize) -> u32
         requires { index < length self.now.edges.entries }
         ensures { (e : EdgeNo × Slot) → slice_get self.now.edges.entries index ≡ Some e → result ≡ next_at side e.1 }
     {
@@ -106,6 +106,7 @@ impl Rows {
     pub fn remove_at(&mut self, side: Side, index: usize)
         requires { IsRows self.old }
         ensures kept { IsRows self.new }
+        ensures published { published_of self.new ≡ published_of self.old }
         ensures ids { self.new.ids ≡ self.old.ids }
         ensures sources { self.new.sources ≡ self.old.sources }
         ensures edges { self.new.edges.entries ≡ map (gone_at side index) self.old.edges.entries }

@@ -21,7 +21,7 @@ impl Table {
 
 // Takes out the edges that leave an id, of the types below a number.
 fn remove_leaving(graph: &mut Graph, types: u16, id: EntityId)
-    ensures { graph.new ≡ without_leaving graph.old types id }
+    ensures { graph.new ≡ record graph.old { contents = without_leaving graph.old.contents types id } }
 {
     for type_no in 0..types {
         graph.remove_from(type_no, &Key::Id(id));

@@ -63,7 +63,7 @@ fn add_leaving(
     id: EntityId,
     held: &mut Vec<Held>,
 ) -> Result<(), AllocError>
-    ensures { OnOk result (Adds held.old.items held.new.items (map held_of (filter (λ e. leaves_below types id e.0) graph.now.edges))) }
+    ensures { OnOk result (Adds held.old.items held.new.items (map held_of (filter (λ e. leaves_below types id e.0) graph.now.contents.edges))) }
 {
     for type_no in 0..types {
         graph.add_from(type_no, &Key::Id(id), held)?;

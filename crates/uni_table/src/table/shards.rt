@@ -41,7 +41,7 @@ impl Table {
 // Adds the edges that reach entities, each of which is there once.
 fn add_reaching(graph: &Graph, docs: &[DocKey], held: &mut Vec<Held>) -> Result<(), AllocError>
     requires { AreApart docs.now }
-    ensures { OnOk result (Adds held.old.items held.new.items (map held_of (filter (λ e. reaches_any docs.now e.0) graph.now.edges))) }
+    ensures { OnOk result (Adds held.old.items held.new.items (map held_of (filter (λ e. reaches_any docs.now e.0) graph.now.contents.edges))) }
 {
     for doc in docs {
         graph.add_into(doc.id, held)?;
@@ -71,7 +71,7 @@ fn add_forward(
     held: &mut Vec<Held>,
 ) -> Result<(), AllocError>
     requires { AreApart docs.now }
-    ensures { OnOk result (Adds held.old.items held.new.items (map held_of (filter (λ e. leaves_any_forward schema.now vertical docs.now e.0) graph.now.edges))) }
+    ensures { OnOk result (Adds held.old.items held.new.items (map held_of (filter (λ e. leaves_any_forward schema.now vertical docs.now e.0) graph.now.contents.edges))) }
 {
     for doc in docs {
         add_forward_of(graph, schema, vertical, doc.id, held)?;
@@ -87,7 +87,7 @@ fn add_forward_of(
     id: EntityId,
     held: &mut Vec<Held>,
 ) -> Result<(), AllocError>
-    ensures { OnOk result (Adds held.old.items held.new.items (map held_of (filter (λ e. leaves_forward schema.now vertical id e.0) graph.now.edges))) }
+    ensures { OnOk result (Adds held.old.items held.new.items (map held_of (filter (λ e. leaves_forward schema.now vertical id e.0) graph.now.contents.edges))) }
 {
     for type_no in 0..schema.types() {
         if is_forward_type(schema, vertical, type_no) {

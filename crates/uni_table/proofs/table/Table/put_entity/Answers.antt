@@ -6,7 +6,7 @@ use Rattle.uni_table.proofs.table.Table.put_entity.Goals as goal
 
 pub invariant_of-self-2 : goal.invariant_of-self-2
 invariant_of-self-2 c =
-    let taken : refuses_entity c.self.inside.limits c.self.inside.graph c.args.vertical c.args.id ≡ None =
+    let taken : refuses_entity c.self.inside.limits c.self.inside.graph.contents c.args.vertical c.args.id ≡ None =
     subst (λ (t : TableState). refuses_entity t.limits t.contents c.args.vertical c.args.id ≡ None) (sym c.self.view_is)
     (sym c.refuses_entity.ensures ∙ c.in_default.is) in
-    rw c.in-Ok.ensures.ok (entity_keeps c.self.inside.schema.value c.self.inside.limits c.self.inside.graph c.self.invariant c.args.vertical c.args.id c.args.rank taken)
+    rw c.in-Ok.ensures.ok (record { contents = entity_keeps c.self.inside.schema.value c.self.inside.limits c.self.inside.graph.contents c.self.invariant.contents c.args.vertical c.args.id c.args.rank taken; published = c.self.invariant.published })

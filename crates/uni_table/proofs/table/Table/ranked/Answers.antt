@@ -12,12 +12,12 @@ use Rattle.uni_table.proofs.table.Table.ranked.Goals as goal
 pub returns : goal.returns
 returns c =
     let schema = c.self.inside.schema.value in
-    let graph = c.self.inside.graph in
+    let graph = c.self.inside.graph.contents in
     let found : IsPermutation (map doc_of (filter (is_of_shard schema c.args.vertical c.args.shard) graph.entities)) c.in_ok-docs.docs.items =
     subst (λ (s : Declarations). IsPermutation (map doc_of (filter (is_of_shard s c.args.vertical c.args.shard) graph.entities)) c.in_ok-docs.docs.items) c.deref.ensures c.in_ok-docs.ensures in
     let sorted : IsPermutation (map doc_of (filter (is_of_shard schema c.args.vertical c.args.shard) graph.entities)) c.sort_unstable.new.self.items =
     IsPermutation-trans (map doc_of (filter (is_of_shard schema c.args.vertical c.args.shard) graph.entities)) c.in_ok-docs.docs.items c.sort_unstable.new.self.items found c.sort_unstable.ensures.permutation in
     c.in_ok-extend_from_slice.ensures.ok ∙ ap (λ (old : List DocKey). old ++ c.as_slice.result.now) c.new-list.ensures ∙ c.as_slice.ensures.value
     ∙ in_order-is (map doc_of (filter (is_of_shard schema c.args.vertical c.args.shard) graph.entities)) c.sort_unstable.new.self.items
-    (docs_apart (is_of_shard schema c.args.vertical c.args.shard) graph.entities c.self.invariant.entities) sorted c.sort_unstable.ensures.sorted
+    (docs_apart (is_of_shard schema c.args.vertical c.args.shard) graph.entities c.self.invariant.contents.entities) sorted c.sort_unstable.ensures.sorted
     ∙ ap (λ (t : TableState). ranked t.schema t.contents c.args.vertical c.args.shard) c.self.view_is

@@ -20,7 +20,7 @@ use Rattle.uni_table.proofs.table.Table.reached.Goals as goal
 pub returns : goal.returns
 returns c =
     let schema = c.self.inside.schema.value in
-    let graph = c.self.inside.graph in
+    let graph = c.self.inside.graph.contents in
     let number = c.args.type_no in
     let key = c.args.key.now in
     let hs : List Held = c.add_from.new.held.items in
@@ -34,6 +34,6 @@ returns c =
     let up : IsSortedByKey (λ (t : Target). t.doc) doc_cmp us = c.sort_unstable_by_key.ensures.sorted (λ (t : Target). t.doc) (answers_always _ _ _ (λ f a r g k. search rules)) in
     let all : map (held_to number key) c.as_slice-2.result.now ≡ reached_of c.args.self.now.schema c.args.self.now.contents number key =
     ap (map (held_to number key)) c.as_slice-2.ensures.value
-    ∙ held-is graph number key schema known.0 known.1 c.self.invariant hs ts us added is c.sort_unstable_by_key.ensures.permutation up
+    ∙ held-is graph number key schema known.0 known.1 c.self.invariant.contents hs ts us added is c.sort_unstable_by_key.ensures.permutation up
     ∙ ap (λ (t : TableState). reached_of t.schema t.contents number key) c.self.view_is in
     subst (λ (es : List Held). IfOk c.held.result (λ held. held ≡ es)) all c.held.ensures

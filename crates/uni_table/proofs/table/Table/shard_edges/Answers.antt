@@ -18,33 +18,33 @@ use Rattle.uni_table.proofs.table.Table.shard_edges.Goals as goal
 pub add_reaching-requires : goal.add_reaching-requires
 add_reaching-requires c =
     let schema = c.self.inside.schema.value in
-    let graph = c.self.inside.graph in
+    let graph = c.self.inside.graph.contents in
     subst AreApart (sym c.as_slice.ensures.value)
-    (members_apart schema c.self.inside.limits graph c.self.invariant c.args.vertical c.args.shard c.in_ok-docs.docs.items
+    (members_apart schema c.self.inside.limits graph c.self.invariant.contents c.args.vertical c.args.shard c.in_ok-docs.docs.items
     (subst (λ (s : Declarations). IsPermutation (map doc_of (filter (is_of_shard s c.args.vertical c.args.shard) graph.entities)) c.in_ok-docs.docs.items) c.deref.ensures c.in_ok-docs.ensures))
 
 pub add_indexed-requires : goal.add_indexed-requires
 add_indexed-requires c =
     let schema = c.self.inside.schema.value in
-    let graph = c.self.inside.graph in
+    let graph = c.self.inside.graph.contents in
     let added : Adds [] c.add_reaching.new.held.items (map held_of (filter (λ (e : EdgeRef × EdgeRow). reaches_any c.as_slice.result.now e.0) graph.edges)) =
     subst (λ (before : List Held). Adds before c.add_reaching.new.held.items (map held_of (filter (λ (e : EdgeRef × EdgeRow). reaches_any c.as_slice.result.now e.0) graph.edges))) c.new-reaching.ensures.items c.in_ok-add_reaching.ensures in
     subst (λ (s : Declarations). AreDeclared s c.as_slice-2.result.now) (sym c.deref-2.ensures) (subst (AreDeclared schema) (sym c.as_slice-2.ensures.value)
-    (all_declared schema c.self.inside.limits graph c.self.invariant c.args.vertical c.args.shard (λ (e : EdgeRef × EdgeRow). reaches_any c.as_slice.result.now e.0) c.add_reaching.new.held.items
+    (all_declared schema c.self.inside.limits graph c.self.invariant.contents c.args.vertical c.args.shard (λ (e : EdgeRef × EdgeRow). reaches_any c.as_slice.result.now e.0) c.add_reaching.new.held.items
     (adds_all c.add_reaching.new.held.items (map held_of (filter (λ (e : EdgeRef × EdgeRow). reaches_any c.as_slice.result.now e.0) graph.edges)) added)))
 
 pub add_forward-requires : goal.add_forward-requires
 add_forward-requires c =
     let schema = c.self.inside.schema.value in
-    let graph = c.self.inside.graph in
+    let graph = c.self.inside.graph.contents in
     subst AreApart (sym c.as_slice-3.ensures.value)
-    (members_apart schema c.self.inside.limits graph c.self.invariant c.args.vertical c.args.shard c.in_ok-docs.docs.items
+    (members_apart schema c.self.inside.limits graph c.self.invariant.contents c.args.vertical c.args.shard c.in_ok-docs.docs.items
     (subst (λ (s : Declarations). IsPermutation (map doc_of (filter (is_of_shard s c.args.vertical c.args.shard) graph.entities)) c.in_ok-docs.docs.items) c.deref.ensures c.in_ok-docs.ensures))
 
 pub returns : goal.returns
 returns c =
     let schema = c.self.inside.schema.value in
-    let graph = c.self.inside.graph in
+    let graph = c.self.inside.graph.contents in
     let docs : List DocKey = c.in_ok-docs.docs.items in
     let reaching : List Held = c.add_reaching.new.held.items in
     let indexed : List Held = c.add_indexed.new.held.items in
@@ -63,5 +63,5 @@ returns c =
     (subst (λ (ks : List DocKey). Adds indexed all (map held_of (filter (λ (e : EdgeRef × EdgeRow). leaves_any_forward c.deref-3.result.now c.args.vertical ks e.0) graph.edges))) c.as_slice-3.ensures.value c.in_ok-add_forward.ensures) in
     ok_both c.in_order.result (IsPermutation all) (IsSortedByKey (λ (h : Held). h.edge) edge_cmp) (λ held. held ≡ shard_edges c.args.self.now.schema c.args.self.now.contents c.args.vertical c.args.shard)
     (λ held permuted up.
-    shard-is schema c.self.inside.limits graph c.self.invariant c.args.vertical c.args.shard docs same reaching indexed all held one two three permuted up
+    shard-is schema c.self.inside.limits graph c.self.invariant.contents c.args.vertical c.args.shard docs same reaching indexed all held one two three permuted up
     ∙ ap (λ (t : TableState). shard_edges t.schema t.contents c.args.vertical c.args.shard) c.self.view_is) c.in_order.ensures.permutation c.in_order.ensures.sorted

@@ -18,7 +18,7 @@ use Rattle.uni_table.proofs.table.Table.touching.Goals as goal
 pub returns : goal.returns
 returns c =
     let schema = c.self.inside.schema.value in
-    let graph = c.self.inside.graph in
+    let graph = c.self.inside.graph.contents in
     let types : c.types.result ≡ length schema.types = c.types.ensures.count ∙ ap (λ (s : Declarations). length s.types) c.deref.ensures in
     let leaving : Adds [] c.add_leaving.new.held.items (map held_of (filter (λ (e : EdgeRef × EdgeRow). leaves_below (length schema.types) c.args.id e.0) graph.edges)) =
     subst (λ n. Adds [] c.add_leaving.new.held.items (map held_of (filter (λ (e : EdgeRef × EdgeRow). leaves_below n c.args.id e.0) graph.edges))) types
@@ -29,5 +29,5 @@ returns c =
     let same : graph ≡ c.args.self.now.contents = ap (λ (t : TableState). t.contents) c.self.view_is in
     ok_both c.in_order.result (IsPermutation c.add_into.new.held.items) (IsSortedByKey (λ (h : Held). h.edge) edge_cmp) (λ held. held ≡ touching c.args.self.now.contents c.args.id)
     (λ held permuted up.
-    touching-is schema c.self.inside.limits graph c.self.invariant c.args.id c.add_leaving.new.held.items c.retain.new.self.items c.add_into.new.held.items held leaving left c.in_ok-add_into.ensures permuted up
+    touching-is schema c.self.inside.limits graph c.self.invariant.contents c.args.id c.add_leaving.new.held.items c.retain.new.self.items c.add_into.new.held.items held leaving left c.in_ok-add_into.ensures permuted up
     ∙ ap (λ (g : _). touching g c.args.id) same) c.in_order.ensures.permutation c.in_order.ensures.sorted

@@ -7,3 +7,6 @@ returns-clause-ended c =
     let now = c.loop-number.self in
     let kept = c.loop-number.invariant.kept in
     sym (nothing-ended c.args.publish now kept (none-ended c.args.publish now kept c.in_default.ensures)) ∙ c.loop-number.invariant.same
+
+pub returns-clause-published : goal.returns-clause-published
+returns-clause-published c = c.loop-number.invariant.published

@@ -12,6 +12,7 @@ loop-number-init c =
     let rows = c.args.self.now in
     record {
       kept = c.requires;
+      published = refl;
       along = subst (IsAlong rows c.args.side c.args.index) (sym c.last-number.ensures) (along-start rows c.requires c.args.side c.args.index);
       ids = refl;
       sources = refl;
@@ -51,6 +52,7 @@ loop-number-preserved c =
     let written = c.set_slot.ensures.edges e.0.0 e.0.1 e.1 in
     record {
       kept = c.set_slot.ensures.kept;
+      published = c.set_slot.ensures.published ∙ c.loop-number.invariant.published;
       along =
           along-moved now c.set_slot.new.self c.args.side c.args.index c.next-number.result (ap keys_of written ∙ keys-written now.edges.entries i (gone e.0).1)
           (subst (IsAlong now c.args.side c.args.index) (sym next) (along-next now kept c.args.side c.args.index c.loop-number.number i here along e.0 e.1));
@@ -66,3 +68,6 @@ returns-clause-edges c =
     let none : c.loop-number.number ≡ 0 = omega arith in
     c.loop-number.invariant.done ∙ ap (λ n. changed_from (gone_at c.args.side c.args.index) n c.args.self.now.edges.entries) none
     ∙ gone-all c.args.side c.args.index c.args.self.now.edges.entries
+
+pub returns-clause-published : goal.returns-clause-published
+returns-clause-published c = c.loop-number.invariant.published

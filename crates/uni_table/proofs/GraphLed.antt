@@ -1,0 +1,110 @@
+-- The edges that reach an id, as a walk comes by them.
+use Rattle.std.proofs.Common.{◌≡◌, ◌≤◌, ◌<◌, ◌+◌, ◌⊎◌, ◌==◌, ◌||◌, not, if◌then◌else◌, inl, inr, ⊎_elim, get_or, Option, [], ◌∷◌, ◌++◌, ℕ, suc, nat_lt, Bool, true, false, List, Some, None, refl, sym, ◌∙◌, ap, subst, length, take, slice_get, arith, true≢false}
+use Rattle.std.specs.Map.{keys_of}
+use Rattle.std.proofs.lemmas.Bool.Decides.{nat_tests}
+use Rattle.std.proofs.lemmas.List.{take_all, take_more}
+use Rattle.std.proofs.lemmas.List.Elements.{Contains-push_cases}
+use Rattle.std.specs.List.{Contains}
+use Rattle.std.specs.Option.{option_map_or}
+use Rattle.std.proofs.lemmas.Map.Entries.{length-keys_of}
+use Rattle.std.proofs.lemmas.Option.{slice_get_within}
+use Rattle.chained_rows.specs.Chains.{last_no}
+use Rattle.uni_table.specs.GraphChanges.{IsLed, AddsLedBy, AddsMoved, AreAffected, moved_at, has_moved, rank_differs, is_affected, is_changed, is_other}
+use Rattle.uni_table.specs.GraphRows.{IsRows, entity_then_of, is_live, is_same, is_same_entity, has_at, no_at, next_at, last_at}
+use Rattle.uni_table.specs.declared.command.EntityRow.{EntityRow}
+use Rattle.uni_table.specs.declared.graph.numbers.Before.{Before}
+use Rattle.uni_table.specs.declared.graph.numbers.Before.TheVariants as before
+use Rattle.uni_table.specs.declared.graph.numbers.EntityBefore.{EntityBefore}
+use Rattle.uni_table.specs.declared.graph.numbers.EntityBefore.TheVariants as entity_then
+use Rattle.uni_table.specs.declared.graph.numbers.Node.{Node}
+use Rattle.uni_table.specs.declared.graph.numbers.SlotState.{SlotState}
+use Rattle.uni_table.specs.declared.graph.numbers.EdgeNo.{EdgeNo}
+use Rattle.uni_table.specs.declared.graph.numbers.Slot.{Slot}
+use Rattle.uni_table.specs.declared.graph.numbers.Side.TheVariants.{Target}
+use Rattle.uni_table.specs.declared.graph.rows.Rows.{Rows}
+use Rattle.uni_table.proofs.GraphPlaces.{key-at}
+use Rattle.uni_table.proofs.GraphWalks.{IsAlong, last_no-past, next-is}
+
+module _ (rows : Rows) (kept : IsRows rows) (q : ℕ) where
+  pub led-start : (place : ℕ) → IsLed rows q place → last_at Target rows q ≤ place → ⊥
+  led-start place led le =
+      let all : last_no (has_at Target q) (take (length (keys_of rows.edges.entries)) (keys_of rows.edges.entries)) ≡ last_at Target rows q =
+      ap (last_no (has_at Target q)) (take_all (length (keys_of rows.edges.entries)) (keys_of rows.edges.entries) (omega arith)) ∙ sym (kept.lasts Target q) in
+      true≢false (sym led.2 ∙ last_no-past (has_at Target q) (keys_of rows.edges.entries) (length (keys_of rows.edges.entries)) place led.0.0 (key-at rows.edges.entries place led.0 led.1)
+      (omega (arith, slice_get_within rows.edges.entries place led.0 led.1, length-keys_of rows.edges.entries)) (omega (arith, all, le)))
+
+  module _ (number i : ℕ) (here : number ≡ suc i) (along : IsAlong rows Target q number) (e : EdgeNo × Slot) (at : slice_get rows.edges.entries i ≡ Some e) where
+    -- the next one on a walk is here or past where it was
+    pub led-next : (place : ℕ) → IsLed rows q place → next_at Target e.1 ≤ place → (i ≡ place) ⊎ (i < place)
+    led-next place led le = by (nat_lt i place) refl
+      where
+        passed : i ≤ place
+        passed = below (nat_lt place i) refl
+          where
+            below : (b : Bool) → nat_lt place i ≡ b → i ≤ place
+            below false test = grind (arith, nat_tests)
+            below true test =
+                let lt : place < i = grind (arith, nat_tests) in
+                absurd (true≢false (sym led.2 ∙ last_no-past (has_at Target q) (keys_of rows.edges.entries) i place led.0.0 (key-at rows.edges.entries place led.0 led.1) lt
+                (omega (arith, le, next-is rows kept Target q number i here along e at))))
+
+        by : (b : Bool) → nat_lt i place ≡ b → (i ≡ place) ⊎ (i < place)
+        by true test = inr (grind (arith, nat_tests))
+        by false test = inl (let back : place ≤ i = grind (arith, nat_tests) in omega (arith, back, passed))
+
+-- no place is added for no ids
+pub moved-none : (rows : Rows) (old : List ℕ) → AddsMoved rows [] old old
+moved-none rows old place (inl there) = there
+moved-none rows old place (inr led) = absurd (omega (arith, led.1.1))
+
+-- those for one id more
+pub moved-more : (rows : Rows) (xs : List ℕ) (i x : ℕ) → i < length xs → x ≡ get_or xs i x → (old before after : List ℕ) → AddsMoved rows (take i xs) old before → AddsLedBy rows x before after → AddsMoved rows (take (i + 1) xs) old after
+moved-more rows xs i x below is old before after so_far adds place (inl there) = adds place (inl (so_far place (inl there)))
+moved-more rows xs i x below is old before after so_far adds place (inr led) =
+    ⊎_elim (λ earlier. adds place (inl (so_far place (inr (led.0, earlier, led.2, led.3)))))
+    (λ here. adds place (inr (subst (λ n. moved_at rows n ≡ true) (sym here) led.2, subst (λ n. IsLed rows n place) (sym here) led.3)))
+    (Contains-push_cases (take i xs) x led.0 (subst (λ ys. Contains ys led.0) more led.1))
+  where
+    more : take (i + 1) xs ≡ take i xs ++ x ∷ []
+    more = take_more xs i x below ∙ ap (λ y. take i xs ++ y ∷ []) (sym is)
+
+-- an edge that differs was touched
+other-touched : (b : Before) (state : SlotState) (end : ℕ) → is_other b state end ≡ true → is_same b ≡ false
+other-touched before.Same state end is = cc
+other-touched before.Gone state end is = refl
+other-touched (before.Public until) state end is = refl
+other-touched (before.Only until) state end is = refl
+other-touched (before.Circle n until) state end is = refl
+
+-- so was an id with another rank
+itself : (row : Option EntityRow) → rank_differs row row ≡ false
+itself None = refl
+itself (Some row) = ap not (let same : (row.rank.0 == row.rank.0) ≡ true = grind (arith, nat_tests) in same)
+
+moved-touched : (b : EntityBefore) (row : Option EntityRow) → rank_differs (entity_then_of b row) row ≡ true → is_same_entity b ≡ false
+moved-touched entity_then.Same row is = absurd (true≢false (sym is ∙ itself row))
+moved-touched entity_then.Absent row is = refl
+moved-touched (entity_then.Present before) row is = refl
+
+-- what is affected differs itself, or leads to an id with another rank
+pub affected-cases : (rows : Rows) (e : EdgeNo × Slot) → is_affected rows e ≡ true → (is_changed e.1 ≡ true) ⊎ ((is_live e.1.state ≡ true) × (moved_at rows e.0.target ≡ true))
+affected-cases rows e is = by (is_changed e.1) refl (is_live e.1.state) refl is
+  where
+    by : (a : Bool) → is_changed e.1 ≡ a → (b : Bool) → is_live e.1.state ≡ b → (a || (if b then moved_at rows e.0.target else false)) ≡ true → (is_changed e.1 ≡ true) ⊎ ((is_live e.1.state ≡ true) × (moved_at rows e.0.target ≡ true))
+    by true changed b live h = inl changed
+    by false changed true live h = inr (live, h)
+    by false changed false live h = cc
+
+-- the places of touched edges and of those that reach ids with other ranks are those of all that are affected
+pub all-affected : (rows : Rows) → IsRows rows → (places : List ℕ) → AddsMoved rows rows.touched_ids.items rows.touched_edges.items places → AreAffected rows places
+all-affected rows kept places adds place e at is = ⊎_elim
+    (λ changed. adds place (inl (kept.touched_edges.listed place e at (other-touched e.1.before e.1.state e.1.end changed))))
+    (λ led. adds place (inr (e.0.target, touched e.0.target led.1, led.1, (e, at, grind (arith, nat_tests)))))
+    (affected-cases rows e is)
+  where
+    touched : (number : ℕ) → moved_at rows number ≡ true → Contains rows.touched_ids.items number
+    touched number moved = by (slice_get rows.ids.entries number) refl moved
+      where
+        by : (o : Option (ℕ × Node)) → slice_get rows.ids.entries number ≡ o → option_map_or (λ n. has_moved n.1) o false ≡ true → Contains rows.touched_ids.items number
+        by None there h = cc
+        by (Some n) there h = kept.touched_ids.listed number n there (moved-touched n.1.before n.1.row h)

@@ -1,0 +1,201 @@
+//! What differs between what the rows stand for and what they stood for at the last publish.
+ghost use Rattle.std.specs.Prelude.{◌≡◌, ◌++◌, ◌∷◌, [], false, length, nat_eq, slice_get, IfOk, OnOk};
+ghost use Rattle.std.specs.List.{IsDistinct, filter_map};
+ghost use Rattle.std.specs.Option.{option_map, option_map_or, option_to_list};
+ghost use Rattle.uni_table.specs.Changes.{HasEdgeChanges, HasEntityChanges};
+ghost use Rattle.uni_table.specs.GraphChanges.{edge_change_at, entity_change_at, has_moved, is_affected, AddsLed, AddsLedBy, AddsMoved, AreAffected};
+ghost use Rattle.uni_table.specs.GraphRows.{contents_of, published_of, IsRows};
+
+use super::numbers::{EdgeNo, Side, Slot};
+use super::rows::Rows;
+use crate::{EdgeChange, EdgeRow, EntityChange};
+use std::alloc::{AllocError, Global};
+use uni_base::{Audience, EdgeRef};
+
+// The row of an edge with an audience and an end. None where it has none.
+fn row_with(audience: Option<Audience>, end: u64) -> Option<EdgeRow>
+    ensures { result ≡ option_map (λ a. record { audience = a; end = end }) audience }
+{
+    match audience {
+        Some(audience) => Some(EdgeRow { audience, end }),
+        None => None,
+    }
+}
+
+// Adds an item to a list.
+fn push<T: Drop>(items: &mut Vec<T>, item: T) -> Result<(), AllocError>
+    ensures { OnOk result (items.new.items ≡ items.old.items ++ item ∷ []) }
+{
+    items.push(item)?;
+    Ok(())
+}
+
+impl Rows {
+    // Adds the change of the id at a place to a list, if it differs.
+    fn add_entity_change(
+        &self,
+        place: usize,
+        changes: &mut Vec<EntityChange>,
+    ) -> Result<(), AllocError>
+        ensures { OnOk result (changes.new.items ≡ changes.old.items ++ option_to_list (entity_change_at self.now place)) }
+    {
+        let Some((id, node)) = self.ids.get_index(place) else {
+            return Ok(());
+        };
+        if !node.is_changed() {
+            return Ok(());
+        }
+        changes.push(EntityChange {
+            id: *id,
+            before: node.row_before(),
+            after: node.row,
+        })?;
+        Ok(())
+    }
+
+    // The changes of the ids at places, those that differ.
+    fn entity_changes_at(
+        &self,
+        alloc: Global,
+        places: &[u32],
+    ) -> Result<Vec<EntityChange>, AllocError>
+        ensures { IfOk result (λ changes. changes.items ≡ filter_map (entity_change_at self.now) places.now) }
+    {
+        let mut changes = Vec::new(alloc);
+        for place in places {
+            let place = *place;
+            self.add_entity_change(place as usize, &mut changes)?;
+        }
+        Ok(changes)
+    }
+
+    /// The changes of the ids that differ, in some order.
+    pub fn entity_changes(&self, alloc: Global) -> Result<Vec<EntityChange>, AllocError>
+        requires { IsRows self.now }
+        ensures { IfOk result (λ changes. HasEntityChanges (published_of self.now) (contents_of self.now) changes.items) }
+    {
+        self.entity_changes_at(alloc, self.touched_ids.as_slice())
+    }
+
+    // Whether the id of a number has another rank than at the last publish.
+    fn has_moved(&self, number: usize) -> bool
+        ensures { result ≡ option_map_or (λ n. has_moved n.1) (slice_get self.now.ids.entries number) false }
+    {
+        match self.ids.get_index(number) {
+            Some((_, node)) => node.has_moved(),
+            None => false,
+        }
+    }
+
+    // Whether an edge differs, or lives and leads to an id with another rank.
+    fn is_affected(&self, number: EdgeNo, slot: &Slot) -> bool
+        ensures { result ≡ is_affected self.now (number, slot.now) }
+    {
+        slot.is_changed() || (slot.state.is_live() && self.has_moved(number.target as usize))
+    }
+
+    // Adds the change of the edge at a place to a list, if it is affected.
+    fn add_edge_change(
+        &self,
+        place: usize,
+        changes: &mut Vec<EdgeChange>,
+    ) -> Result<(), AllocError>
+        requires { IsRows self.now }
+        ensures { OnOk result (changes.new.items ≡ changes.old.items ++ option_to_list (edge_change_at self.now place)) }
+    {
+        let Some((number, slot)) = self.edges.get_index(place) else {
+            return Ok(());
+        };
+        if !self.is_affected(*number, slot) {
+            return Ok(());
+        }
+        let named = self.edge_ref(*number);
+        let key = named.key;
+        let edge = EdgeRef {
+            type_no: named.type_no,
+            key,
+            target: named.target,
+        };
+        let (state, end) = slot.stood();
+        let before = self.audience(state);
+        let after = self.audience(slot.state);
+        let change = EdgeChange {
+            edge,
+            before: row_with(before, end),
+            after: row_with(after, slot.end),
+        };
+        push(changes, change)
+    }
+
+    // Adds the places of the edges that reach the id of a number, gone or not, the last one first.
+    fn add_led(&self, number: usize, places: &mut Vec<u32>) -> Result<(), AllocError>
+        requires { IsRows self.now }
+        ensures { OnOk result (AddsLed self.now number places.old.items places.new.items) }
+    {
+        let mut next = self.last(Side::Target, number);
+        while next > 0 {
+            places.push(next - 1)?;
+            next = self.next(Side::Target, next as usize - 1);
+        }
+        Ok(())
+    }
+
+    // Adds the places of the edges that reach the id of a number, if that has another rank.
+    fn add_led_by(&self, number: usize, places: &mut Vec<u32>) -> Result<(), AllocError>
+        requires { IsRows self.now }
+        ensures { OnOk result (AddsLedBy self.now number places.old.items places.new.items) }
+    {
+        if self.has_moved(number) {
+            self.add_led(number, places)?;
+        }
+        Ok(())
+    }
+
+    // Adds the places of the edges that reach ids with another rank.
+    fn add_moved(&self, places: &mut Vec<u32>) -> Result<(), AllocError>
+        requires { IsRows self.now }
+        ensures { OnOk result (AddsMoved self.now self.now.touched_ids.items places.old.items places.new.items) }
+    {
+        for number in self.touched_ids.as_slice() {
+            let number = *number;
+            self.add_led_by(number as usize, places)?;
+        }
+        Ok(())
+    }
+
+    // The places of all edges that may be affected, each once.
+    fn affected(&self, alloc: Global) -> Result<Vec<u32>, AllocError>
+        requires { IsRows self.now }
+        ensures apart { IfOk result (λ places. IsDistinct nat_eq places.items) }
+        ensures whole { IfOk result (λ places. AreAffected self.now places.items) }
+    {
+        let mut places = Vec::new(alloc);
+        places.extend_from_slice(self.touched_edges.as_slice())?;
+        self.add_moved(&mut places)?;
+        places.sort_unstable();
+        places.dedup();
+        Ok(places)
+    }
+
+    // The changes of the edges at places, those that are affected.
+    fn edge_changes_at(&self, alloc: Global, places: &[u32]) -> Result<Vec<EdgeChange>, AllocError>
+        requires { IsRows self.now }
+        ensures { IfOk result (λ changes. changes.items ≡ filter_map (edge_change_at self.now) places.now) }
+    {
+        let mut changes = Vec::new(alloc);
+        for place in places {
+            let place = *place;
+            self.add_edge_change(place as usize, &mut changes)?;
+        }
+        Ok(changes)
+    }
+
+    /// The changes of the edges that differ or lead to an id with another rank, in some order.
+    pub fn edge_changes(&self, alloc: Global) -> Result<Vec<EdgeChange>, AllocError>
+        requires { IsRows self.now }
+        ensures { IfOk result (λ changes. HasEdgeChanges (published_of self.now) (contents_of self.now) changes.items) }
+    {
+        let places = self.affected(alloc)?;
+        self.edge_changes_at(alloc, places.as_slice())
+    }
+}
