@@ -7,5 +7,6 @@ abbrev pub invariant-loop-command : goal.invariant-loop-command
 invariant-loop-command l = record {
   schema : l.table.schema ≡ l.fn.table.schema;
   limits : l.table.limits ≡ l.fn.table.limits;
+  published : l.table.published ≡ l.fn.table.published;
   rest : after_commands l.fn.table.schema l.table.contents (drop l.command-index l.commands) ≡ after_commands l.fn.table.schema l.fn.table.contents l.commands;
 }
