@@ -1,5 +1,5 @@
 -- Which entities and edges differ, by their rows.
-use Rattle.std.proofs.Common.{◌≡◌, ◌≢◌, ◌↔◌, ◌⊎◌, ◌<◌, ◌+◌, ◌==◌, ◌||◌, ◌&&◌, not, if◌then◌else◌, inl, inr, ⊎_elim, ℕ, zero, suc, Bool, true, false, List, [], ◌∷◌, ◌++◌, Option, None, Some, refl, sym, ◌∙◌, ap, subst, length, map, slice_get, nat_eq, is_some, arith, true≢false}
+use Rattle.std.proofs.Common.{◌≡◌, ◌≢◌, ◌⊎◌, ◌<◌, ◌==◌, ◌||◌, not, if◌then◌else◌, inl, inr, ⊎_elim, ℕ, zero, suc, Bool, true, false, List, [], ◌∷◌, Option, None, Some, refl, sym, ◌∙◌, ap, subst, length, map, slice_get, nat_eq, arith, true≢false}
 use Rattle.std.specs.List.{AllByRecursion, Contains, IsDistinct, filter_map, cons_option}
 use Rattle.std.specs.Map.{keys_of, lookup}
 use Rattle.std.specs.BTreeMap.{is_at}
@@ -12,17 +12,15 @@ use Rattle.std.proofs.lemmas.Map.{NonePasses, lookup-none, none_passes_from_look
 use Rattle.std.proofs.lemmas.Map.Entries.{length-keys_of, lookup_from_place, place_from_lookup}
 use Rattle.std.proofs.lemmas.Map.Made.{lookup-map_values, keys_of-map_values}
 use Rattle.std.proofs.lemmas.Option.{slice_get-map, slice_get-get_or, get_or_from_slice_get}
-use Rattle.chained_rows.specs.Chains.{AtEach}
-use Rattle.chained_rows.specs.Ordered.{ordered}
 use Rattle.chained_rows.proofs.Ordered.{lookup-ordered, joined}
 use Rattle.uni_base.specs.declared.entity.Rank.{Rank}
 use Rattle.uni_base.specs.declared.edge.EdgeRef.{EdgeRef}
 use Rattle.uni_base.specs.EdgeOrder.{edge_cmp}
 use Rattle.uni_table.specs.Changes.{HasEntityChanges, HasEdgeChanges, IsEntityChange, IsEdgeChange, rank_at}
 use Rattle.uni_table.specs.Contents.{entity_at, edge_at}
-use Rattle.uni_table.specs.GraphChanges.{AreAffected, entity_change, entity_change_at, edge_change, edge_change_at, is_other_entity, is_changed_entity, is_other, is_changed, is_affected, is_public, is_only, is_circle, rank_differs, has_moved, moved_at}
+use Rattle.uni_table.specs.GraphChanges.{AreAffected, entity_change, entity_change_at, edge_change, edge_change_at, is_other_entity, is_changed_entity, is_other, is_changed, is_affected, rank_differs, has_moved, moved_at}
 use Rattle.uni_table.specs.GraphKeys.{source_eq, edge_total, exact_edges}
-use Rattle.uni_table.specs.GraphRows.{IsRows, IsKnown, IsCircleKnown, IsBeforeKnown, contents_of, published_of, slots_named, slot_named, slot_before, node_before, entity_before, entity_then_of, row_of, row_before, edge_named, source_named, circle_named, audience_named, is_same_entity, is_live}
+use Rattle.uni_table.specs.GraphRows.{IsRows, IsCircleKnown, IsBeforeKnown, contents_of, published_of, slots_named, slot_named, slot_before, node_before, entity_before, entity_then_of, row_of, row_before, edge_named, source_named, circle_named, is_same_entity, is_live}
 use Rattle.uni_table.specs.declared.change.EntityChange.{EntityChange}
 use Rattle.uni_table.specs.declared.change.EdgeChange.{EdgeChange}
 use Rattle.uni_table.specs.declared.command.EntityRow.{EntityRow}
@@ -236,8 +234,8 @@ module _ (rows : Rows) (kept : IsRows rows) where
   pub all-entities : HasEntityChanges (published_of rows) (contents_of rows) (filter_map (entity_change_at rows) rows.touched_ids.items)
   all-entities = record {
     exact = λ change. (
-        (λ there. let p = picked-from (entity_change_at rows) rows.touched_ids.items change there in (entity-sound p.0 change p.2).0),
-        entity-whole change,
+      (λ there. let p = picked-from (entity_change_at rows) rows.touched_ids.items change there in (entity-sound p.0 change p.2).0),
+      entity-whole change,
     );
     apart = subst (λ eq. IsDistinct eq (map (λ change. change.id) (filter_map (entity_change_at rows) rows.touched_ids.items))) (sym agree)
         (picked-apart nat_equiv (keys_of rows.ids.entries) kept.ids (entity_change_at rows) (λ change. change.id) (λ i change is. (entity-sound i change is).1) rows.touched_ids.items kept.touched_ids.apart);
@@ -357,10 +355,10 @@ module _ (rows : Rows) (kept : IsRows rows) where
 
   edge-none : (edge : EdgeRef) → NonePasses (is_at (edge_cmp edge)) (slots_named rows) → (edge_at (contents_of rows) edge ≡ None) × (edge_at (published_of rows) edge ≡ None)
   edge-none edge none = (
-      edge-missing rows kept edge none,
-      lookup-ordered edge_total edge (map (slot_before (keys_of rows.sources.entries) (keys_of rows.ids.entries)) rows.edges.entries) then-apart
-      ∙ ap joined (lookup-none (is_at (edge_cmp edge)) (map (slot_before (keys_of rows.sources.entries) (keys_of rows.ids.entries)) rows.edges.entries)
-      (then-none (keys_of rows.sources.entries) (keys_of rows.ids.entries) (is_at (edge_cmp edge)) rows.edges.entries none)),
+    edge-missing rows kept edge none,
+    lookup-ordered edge_total edge (map (slot_before (keys_of rows.sources.entries) (keys_of rows.ids.entries)) rows.edges.entries) then-apart
+        ∙ ap joined (lookup-none (is_at (edge_cmp edge)) (map (slot_before (keys_of rows.sources.entries) (keys_of rows.ids.entries)) rows.edges.entries)
+        (then-none (keys_of rows.sources.entries) (keys_of rows.ids.entries) (is_at (edge_cmp edge)) rows.edges.entries none)),
   )
 
   module _ (i : ℕ) (e : EdgeNo × Slot) (at : slice_get rows.edges.entries i ≡ Some e) where
@@ -410,11 +408,15 @@ module _ (rows : Rows) (kept : IsRows rows) where
 
     -- an edge that is affected is a change
     affected-is : is_affected rows e ≡ true → IsEdgeChange (published_of rows) (contents_of rows) change-of
-    affected-is is = (sym edge-then, sym edge-now, ⊎_elim
-        (λ changed. inl (edge-differs (keys_of rows.sources.entries) kept.sources e.1.before e.1.state e.1.end
-        (subst (λ n. IsBeforeKnown n e.1.before) (sym (length-keys_of rows.sources.entries)) (kept.known i e at).before) (subst (λ n. IsCircleKnown n e.1.state) (sym (length-keys_of rows.sources.entries)) (kept.known i e at).circle) changed))
-        (λ led. inr (live-some (keys_of rows.sources.entries) e.1.state e.1.end led.0, moved-differs led.1))
-        (affected-cases rows e is))
+    affected-is is = (
+      sym edge-then,
+      sym edge-now,
+      ⊎_elim
+          (λ changed. inl (edge-differs (keys_of rows.sources.entries) kept.sources e.1.before e.1.state e.1.end
+          (subst (λ n. IsBeforeKnown n e.1.before) (sym (length-keys_of rows.sources.entries)) (kept.known i e at).before) (subst (λ n. IsCircleKnown n e.1.state) (sym (length-keys_of rows.sources.entries)) (kept.known i e at).circle) changed))
+          (λ led. inr (live-some (keys_of rows.sources.entries) e.1.state e.1.end led.0, moved-differs led.1))
+          (affected-cases rows e is),
+    )
 
   made : (e : EdgeNo × Slot) → EdgeChange
   made e = record {
@@ -459,10 +461,10 @@ module _ (rows : Rows) (kept : IsRows rows) where
           let was : row_before (keys_of rows.sources.entries) e.1.before (row_of (keys_of rows.sources.entries) e.1.state e.1.end) ≡ change.before = sym (edge-then p.0 e p.2) ∙ ap (edge_at (published_of rows)) p.3 ∙ sym is.0 in
           let now : row_of (keys_of rows.sources.entries) e.1.state e.1.end ≡ change.after = sym (edge-now p.0 e p.2) ∙ ap (edge_at (contents_of rows)) p.3 ∙ sym is.1 in
           let affected : is_affected rows e ≡ true = ⊎_elim
-              (λ differ. changed-affected e (differs-changed (keys_of rows.sources.entries) e.1.before e.1.state e.1.end (λ same. differ (sym was ∙ same ∙ now))))
-              (λ led. led-affected e (some-live (keys_of rows.sources.entries) e.1.state e.1.end (subst IsSome (sym now) led.0))
-              (differs-moved p.0 e p.2 (λ same. led.1 (ap (λ (x : EdgeRef). rank_at (published_of rows) x.target) (sym p.3) ∙ same ∙ ap (λ (x : EdgeRef). rank_at (contents_of rows) x.target) p.3))))
-              is.2 in
+          (λ differ. changed-affected e (differs-changed (keys_of rows.sources.entries) e.1.before e.1.state e.1.end (λ same. differ (sym was ∙ same ∙ now))))
+          (λ led. led-affected e (some-live (keys_of rows.sources.entries) e.1.state e.1.end (subst IsSome (sym now) led.0))
+          (differs-moved p.0 e p.2 (λ same. led.1 (ap (λ (x : EdgeRef). rank_at (published_of rows) x.target) (sym p.3) ∙ same ∙ ap (λ (x : EdgeRef). rank_at (contents_of rows) x.target) p.3))))
+          is.2 in
           picked-into (edge_change_at rows) places p.0 change (all p.0 e p.2 affected)
           (ap (option_and_then (edge_change rows)) p.2
           ∙ ap (λ b. if b then Some (record { edge = edge_named (keys_of rows.sources.entries) (keys_of rows.ids.entries) e.0; before = row_before (keys_of rows.sources.entries) e.1.before (row_of (keys_of rows.sources.entries) e.1.state e.1.end); after = row_of (keys_of rows.sources.entries) e.1.state e.1.end }) else None) affected
@@ -488,8 +490,8 @@ module _ (rows : Rows) (kept : IsRows rows) where
   pub all-edges : (places : List ℕ) → IsDistinct nat_eq places → AreAffected rows places → HasEdgeChanges (published_of rows) (contents_of rows) (filter_map (edge_change_at rows) places)
   all-edges places apart all = record {
     exact = λ change. (
-        (λ there. let p = picked-from (edge_change_at rows) places change there in (edge-sound p.0 change p.2).0),
-        edge-whole places all change,
+      (λ there. let p = picked-from (edge_change_at rows) places change there in (edge-sound p.0 change p.2).0),
+      edge-whole places all change,
     );
     apart = picked-apart (eq_by_cmp_equiv edge_total) (keys_of (slots_named rows)) kept.edges (edge_change_at rows) (λ change. change.edge) (λ i change is. (edge-sound i change is).1) places apart;
   }

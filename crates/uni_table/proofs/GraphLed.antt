@@ -10,7 +10,7 @@ use Rattle.std.proofs.lemmas.Map.Entries.{length-keys_of}
 use Rattle.std.proofs.lemmas.Option.{slice_get_within}
 use Rattle.chained_rows.specs.Chains.{last_no}
 use Rattle.uni_table.specs.GraphChanges.{IsLed, AddsLedBy, AddsMoved, AreAffected, moved_at, has_moved, rank_differs, is_affected, is_changed, is_other}
-use Rattle.uni_table.specs.GraphRows.{IsRows, entity_then_of, is_live, is_same, is_same_entity, has_at, no_at, next_at, last_at}
+use Rattle.uni_table.specs.GraphRows.{IsRows, entity_then_of, is_live, is_same, is_same_entity, has_at, next_at, last_at}
 use Rattle.uni_table.specs.declared.command.EntityRow.{EntityRow}
 use Rattle.uni_table.specs.declared.graph.numbers.Before.{Before}
 use Rattle.uni_table.specs.declared.graph.numbers.Before.TheVariants as before

@@ -1,5 +1,5 @@
 -- The rows after a batch has ended, row by row.
-use Rattle.std.proofs.Common.{◌≡◌, ◌<◌, ◌+◌, ◌^◌, ℕ, Bool, true, false, List, [], ◌∷◌, ◌++◌, Option, None, Some, refl, sym, ◌∙◌, ap, subst, length, map, take, slice_get, nat_eq, arith, true≢false}
+use Rattle.std.proofs.Common.{◌≡◌, ◌<◌, ◌+◌, ℕ, true, List, [], ◌∷◌, ◌++◌, Option, Some, refl, sym, ◌∙◌, ap, subst, length, map, take, slice_get, nat_eq, arith}
 use Rattle.std.specs.BTreeSet.{contains}
 use Rattle.std.specs.List.{IsDistinct}
 use Rattle.std.specs.Map.{keys_of}
@@ -13,7 +13,6 @@ use Rattle.chained_rows.specs.Ordered.{ordered}
 use Rattle.chained_rows.proofs.Counted.{count-written}
 use Rattle.chained_rows.proofs.Places.{keys-written, length-written, map-agree, map-written, written-same, at_each-set}
 use Rattle.uni_base.specs.EdgeOrder.{edge_cmp}
-use Rattle.uni_table.specs.Contents.{Contents}
 use Rattle.uni_table.specs.GraphRows.{IsRows, IsKnown, AreTouched, contents_of, published_of, slots_named, slot_named, slot_before, node_named, node_before, row_before, row_of, entity_then_of, settled, settled_entity, is_same, is_same_entity, is_entity, is_live, next_at, no_at, has_at, last_at, end_cmp, edge_named}
 use Rattle.uni_table.specs.declared.graph.numbers.Before.{Before}
 use Rattle.uni_table.specs.declared.graph.numbers.Before.TheVariants as before

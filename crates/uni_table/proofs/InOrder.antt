@@ -55,8 +55,8 @@ module _ {X K : Type 0} (key : X → K) {cmp : K → K → Ordering} (o : IsTota
   pub exact_in_order : (P : X → Type 0) (xs ys : List X) → ((x : X) → Contains xs x ↔ P x) → IsDistinct (eq_by_cmp cmp) (map key xs) → IsPermutation xs ys → IsSortedByKey key cmp ys
       → ((x : X) → Contains ys x ↔ P x) × IsStrictlySortedBy cmp (map key ys)
   exact_in_order P xs ys are apart same up = (
-      (λ x. ((λ there. (are x).0 (Contains-permutation ys xs x (IsPermutation-sym xs ys same) there)), (λ is. Contains-permutation xs ys x same ((are x).1 is)))),
-      sorted_apart o (map key ys) (keys_sorted ys up) (IsDistinct-IsPermutation (eq_by_cmp cmp) (ties_flip o) (map key xs) (map key ys) (IsPermutation-map key xs ys same) apart),
+    (λ x. ((λ there. (are x).0 (Contains-permutation ys xs x (IsPermutation-sym xs ys same) there)), (λ is. Contains-permutation xs ys x same ((are x).1 is)))),
+    sorted_apart o (map key ys) (keys_sorted ys up) (IsDistinct-IsPermutation (eq_by_cmp cmp) (ties_flip o) (map key xs) (map key ys) (IsPermutation-map key xs ys same) apart),
   )
 
   module _ (f : K → X) where

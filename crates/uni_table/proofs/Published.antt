@@ -1,21 +1,15 @@
 -- What the rows stood for at the last publish, after numbers are added and rows are written.
-use Rattle.std.proofs.Common.{◌≡◌, ◌≤◌, ◌<◌, ◌+◌, inl, inr, ℕ, Bool, true, false, List, [], ◌∷◌, ◌++◌, Option, None, Some, refl, sym, ◌∙◌, ap, subst, length, map, slice_get, arith}
-use Rattle.std.specs.Map.{keys_of}
+use Rattle.std.proofs.Common.{◌≡◌, ℕ, false, List, [], ◌∷◌, ◌++◌, Option, None, Some, refl, ◌∙◌, ap, map, slice_get}
 use Rattle.std.specs.Option.{option_map}
-use Rattle.std.specs.Ordering.{nat_cmp}
-use Rattle.std.specs.Cmp.{nat_cmp_total}
 use Rattle.std.proofs.lemmas.List.{map_push}
-use Rattle.std.proofs.lemmas.Map.Entries.{length-keys_of}
 use Rattle.std.proofs.lemmas.Option.{slice_get-map}
 use Rattle.indexmap.specs.Layout.{set_value_at}
-use Rattle.chained_rows.specs.Chains.{AtEach}
 use Rattle.chained_rows.specs.Ordered.{ordered}
 use Rattle.chained_rows.proofs.Ordered.{ordered-push_none}
-use Rattle.chained_rows.proofs.Places.{map-agree, map-written, written-same}
+use Rattle.chained_rows.proofs.Places.{map-written, written-same}
 use Rattle.uni_base.specs.EdgeOrder.{edge_cmp}
 use Rattle.uni_table.specs.GraphKeys.{edge_total}
 use Rattle.uni_table.specs.GraphRows.{Grows, IsRows, IsKnown, IsBeforeKnown, IsCircleKnown, published_of, slot_before, node_before, entity_before, row_before, row_of, stood, stood_entity, written, written_entity, is_same, is_same_entity}
-use Rattle.uni_table.specs.declared.command.EdgeRow.{EdgeRow}
 use Rattle.uni_table.specs.declared.command.EntityRow.{EntityRow}
 use Rattle.uni_table.specs.declared.graph.numbers.Source.{Source}
 use Rattle.uni_table.specs.declared.graph.numbers.Node.{Node}
@@ -27,7 +21,6 @@ use Rattle.uni_table.specs.declared.graph.numbers.Before.{Before}
 use Rattle.uni_table.specs.declared.graph.numbers.Before.TheVariants as before
 use Rattle.uni_table.specs.declared.graph.numbers.EntityBefore.{EntityBefore}
 use Rattle.uni_table.specs.declared.graph.numbers.EntityBefore.TheVariants as entity_then
-use Rattle.uni_table.specs.declared.graph.rows.Rows.{Rows}
 
 -- what the batch finds at an edge is told: it stays, and is as it was
 pub row-stood : (sources : List Source) (b : Before) (state now : SlotState) (end until : ℕ) → row_before sources (stood b state end) (row_of sources now until) ≡ row_before sources b (row_of sources state end)

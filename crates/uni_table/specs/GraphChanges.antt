@@ -3,7 +3,6 @@ use Rattle.std.specs.Prelude.{ℕ, ◌≡◌, ◌⊎◌, Bool, true, false, not,
 use Rattle.std.specs.List.{Contains}
 use Rattle.std.specs.Map.{keys_of}
 use Rattle.std.specs.Option.{option_and_then, option_map_or}
-use Rattle.uni_base.specs.declared.entity.Rank.{Rank}
 use Rattle.uni_table.specs.GraphRows.{edge_named, row_of, row_before, entity_before, has_at, is_live}
 use Rattle.uni_table.specs.declared.change.EntityChange.{EntityChange}
 use Rattle.uni_table.specs.declared.change.EdgeChange.{EdgeChange}

@@ -95,11 +95,7 @@ impl Rows {
     }
 
     // Adds the change of the edge at a place to a list, if it is affected.
-    fn add_edge_change(
-        &self,
-        place: usize,
-        changes: &mut Vec<EdgeChange>,
-    ) -> Result<(), AllocError>
+    fn add_edge_change(&self, place: usize, changes: &mut Vec<EdgeChange>) -> Result<(), AllocError>
         requires { IsRows self.now }
         ensures { OnOk result (changes.new.items ≡ changes.old.items ++ option_to_list (edge_change_at self.now place)) }
     {

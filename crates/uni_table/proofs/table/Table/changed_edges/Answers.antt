@@ -1,9 +1,9 @@
-use Rattle.std.proofs.Common.{◌≡◌, List, ap, subst, sym}
+use Rattle.std.proofs.Common.{subst}
 use Rattle.std.specs.List.Sorted.{IsPermutation, IsSortedByKey}
 use Rattle.uni_base.specs.EdgeOrder.{edge_cmp}
 use Rattle.uni_table.proofs.Keys.{exact_edges}
 use Rattle.uni_table.proofs.Kept.{edge_total}
-use Rattle.uni_table.specs.Changes.{AreEdgeChanges, HasEdgeChanges, IsEdgeChange}
+use Rattle.uni_table.specs.Changes.{AreEdgeChanges, IsEdgeChange}
 use Rattle.uni_table.specs.TableState.{TableState}
 use Rattle.uni_table.specs.declared.change.EdgeChange.{EdgeChange}
 use Rattle.uni_table.proofs.Additions.{ok_both}

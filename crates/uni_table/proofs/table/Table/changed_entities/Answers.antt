@@ -1,9 +1,9 @@
-use Rattle.std.proofs.Common.{◌≡◌, List, ap, subst, sym}
+use Rattle.std.proofs.Common.{subst}
 use Rattle.std.specs.List.Sorted.{IsPermutation, IsSortedByKey}
 use Rattle.std.specs.Cmp.{nat_cmp_total}
 use Rattle.std.specs.Ordering.{nat_cmp}
 use Rattle.std.proofs.lemmas.Map.Lookups.{exact_unsigned}
-use Rattle.uni_table.specs.Changes.{AreEntityChanges, HasEntityChanges, IsEntityChange}
+use Rattle.uni_table.specs.Changes.{AreEntityChanges, IsEntityChange}
 use Rattle.uni_table.specs.TableState.{TableState}
 use Rattle.uni_table.specs.declared.change.EntityChange.{EntityChange}
 use Rattle.uni_table.proofs.Additions.{ok_both}

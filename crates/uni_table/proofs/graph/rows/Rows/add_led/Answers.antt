@@ -1,7 +1,6 @@
-use Rattle.std.proofs.Common.{◌≡◌, ◌≤◌, ◌<◌, ◌-◌, ◌++◌, ◌∷◌, [], ◌⊎◌, ◌∙◌, inl, inr, ⊎_elim, ℕ, suc, sym, ap, subst, slice_get, Some, arith}
+use Rattle.std.proofs.Common.{◌≡◌, ◌-◌, ◌++◌, ◌∷◌, [], inl, inr, ⊎_elim, suc, sym, subst, arith}
 use Rattle.std.specs.List.{Contains}
 use Rattle.std.proofs.lemmas.List.Elements.{Contains-append_left, Contains-push}
-use Rattle.uni_table.specs.GraphChanges.{IsLed}
 use Rattle.uni_table.specs.declared.graph.numbers.Side.TheVariants.{Target}
 use Rattle.uni_table.proofs.GraphPlaces.{entry-at}
 use Rattle.uni_table.proofs.GraphWalks.{IsAlong, along-start, along-within, along-next, next-le}

@@ -1,4 +1,4 @@
-use Rattle.std.proofs.Common.{◌≡◌, ◌≤◌, ◌⊎◌, ℕ}
+use Rattle.std.proofs.Common.{◌≤◌, ◌⊎◌, ℕ}
 use Rattle.std.specs.List.{Contains}
 use Rattle.uni_table.specs.GraphChanges.{IsLed}
 use Rattle.uni_table.specs.declared.graph.numbers.Side.TheVariants.{Target}

@@ -1,4 +1,4 @@
-use Rattle.std.proofs.Common.{◌≡◌, ◌∙◌, subst, get_or, take}
+use Rattle.std.proofs.Common.{◌∙◌, subst, get_or}
 use Rattle.std.proofs.lemmas.List.{get_or_default, take_all}
 use Rattle.uni_table.specs.GraphChanges.{AddsMoved}
 use Rattle.uni_table.proofs.GraphLed.{moved-none, moved-more}

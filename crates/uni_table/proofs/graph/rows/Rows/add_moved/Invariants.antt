@@ -1,4 +1,4 @@
-use Rattle.std.proofs.Common.{◌≡◌, take}
+use Rattle.std.proofs.Common.{take}
 use Rattle.uni_table.specs.GraphChanges.{AddsMoved}
 use Rattle.uni_table.proofs.graph.rows.Rows.add_moved.Given as goal
 

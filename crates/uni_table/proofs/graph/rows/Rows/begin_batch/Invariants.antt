@@ -1,4 +1,4 @@
-use Rattle.std.proofs.Common.{◌≡◌, List, [], length}
+use Rattle.std.proofs.Common.{◌≡◌, [], length}
 use Rattle.uni_table.specs.GraphRows.{contents_of, IsRows}
 use Rattle.uni_table.proofs.graph.rows.Rows.begin_batch.Given as goal
 

@@ -1,9 +1,8 @@
-use Rattle.std.proofs.Common.{refl, ◌≡◌, ◌≤◌, ◌+◌, ◌∙◌, length, arith}
+use Rattle.std.proofs.Common.{refl, ◌∙◌, arith}
 use Rattle.std.proofs.lemmas.List.Elements.{same_from_all_zip}
 use Rattle.std.proofs.lemmas.Map.Entries.{entries_from_clone}
 use Rattle.uni_table.specs.declared.graph.rows.Rows.{Rows}
 use Rattle.uni_table.proofs.GraphCopied.{copy-kept, copy-same, copy-then}
-use Rattle.uni_table.proofs.TouchedRows.{touched-few}
 use Rattle.uni_table.proofs.graph.rows.Rows.copy.Goals as goal
 
 pub returns-clause-kept : goal.returns-clause-kept

@@ -1,11 +1,10 @@
-use Rattle.std.proofs.Common.{Bool, refl, inl, None, ◌∙◌, sym, subst, arith}
+use Rattle.std.proofs.Common.{Bool, refl, inl, None, sym, subst, arith}
 use Rattle.uni_table.specs.GraphRows.{AreTouched, is_same_entity}
 use Rattle.uni_table.specs.declared.graph.numbers.EntityBefore.TheVariants as entity_then
 use Rattle.uni_table.specs.declared.graph.numbers.Node.{Node}
-use Rattle.uni_table.specs.declared.graph.rows.Rows.{Rows}
 use Rattle.uni_table.proofs.GraphEdges.{quiet-room}
 use Rattle.uni_table.proofs.GraphGrown.{quiet-grown}
-use Rattle.uni_table.proofs.TouchedRows.{touched-few, touched-grown, touched-room}
+use Rattle.uni_table.proofs.TouchedRows.{touched-grown, touched-room}
 use Rattle.uni_table.proofs.graph.rows.Rows.id_no.Goals as goal
 
 pub returns-clause-quiet : goal.returns-clause-quiet
