@@ -1,6 +1,7 @@
 //! Small tables, and what is listed of them after each change.
 use crate::{AudienceText, Command, Table};
 use listing::lists;
+use noisy::{Noise, is_listed};
 use reading::{changes, part};
 use std::alloc::Global;
 use std::process::Abort;
@@ -9,7 +10,9 @@ use std::test::Fail;
 use uni_base::{EntityId, Limits, Rank, Word, cut_at};
 use uni_schema::{HeaderReader, Schema};
 
+mod changed;
 mod listing;
+mod noisy;
 mod reading;
 
 // Users in two shards and photos in one: friends, where users live, the photos that they are tagged in,
@@ -70,6 +73,27 @@ const COPIED: &[u8] = b"counts=8 12;friends 1=0 1 2,0 1 3,0 1 5;audience 0 1 2=p
 
 // An edge that was cut is put again, with a circle.
 const CUT: &[u8] = b"cut 0 1 2;edge 0 1 2 0:5 0;cut 0 1 3;counts=8 11;audience 0 1 2=0:5";
+
+// Before the first batch begins, all that stands is new.
+const BEGUN: &[u8] =
+    b"entity 0 1 50;entity 1 7 2;edge 0 1 1 only 0;edge 2 1 7 0:1 3;cut 0 1 1;entities changed=1:->0/50,7:->1/2;edges changed=2 1 7:->0:1 3;begin;entities changed=;edges changed=;begin;entities changed=;edges changed=";
+
+// A user's rank changes, and with it the edges that lead there; then it changes back. After the next batch
+// has begun nothing is listed.
+const MOVED: &[u8] =
+    b"edge 0 5 1 public 0;begin;entity 0 5 95;entities changed=5:0/70>0/95;edges changed=0 1 5:public 0>public 0,1 rome 5:public 0>public 0;entity 0 5 70;entities changed=;edges changed=;entity 0 5 95;begin;entities changed=;edges changed=;entity 0 5 95;entities changed=;edges changed=;entity 0 5 70;entities changed=5:0/95>0/70;begin;refused 14 edge 0 1 99 public 0;entities changed=;edges changed=";
+
+// An edge that is cut and put again, with the same row and with others.
+const PUT_AGAIN: &[u8] =
+    b"begin;cut 0 1 2;edges changed=0 1 2:public 0>-;edge 0 1 2 public 0;edges changed=;cut 0 1 2;edge 0 1 2 only 0;edges changed=0 1 2:public 0>only 0;edge 0 1 2 0:5 7;edges changed=0 1 2:public 0>0:5 7;entities changed=;begin;edges changed=;cut 0 1 2;edge 0 1 2 0:5 7;edges changed=;edge 0 1 2 0:3 7;edges changed=0 1 2:0:5 7>0:3 7;edge 0 1 2 0:5 8;edges changed=0 1 2:0:5 7>0:5 8;edge 0 2 4 only 0;edges changed=0 1 2:0:5 7>0:5 8,0 2 4:->only 0;cut 0 2 4;edge 0 1 2 0:5 7;edges changed=";
+
+// A user goes, is added as a photo, and then as it was, with one of its edges.
+const ELSEWHERE: &[u8] =
+    b"begin;gone 4;entities changed=4:0/10>-;edges changed=1 rome 4:public 0>-,3 102 4:public 0>-;entity 1 4 10;entities changed=4:0/10>1/10;edge 2 1 4 public 0;edges changed=1 rome 4:public 0>-,2 1 4:->public 0,3 102 4:public 0>-;gone 4;entity 0 4 10;edge 1 rome 4 public 0;entities changed=;edges changed=3 102 4:public 0>-;entity 0 4 11;entities changed=4:0/10>0/11;edges changed=1 rome 4:public 0>public 0,3 102 4:public 0>-";
+
+// Ends come, and one is put off.
+const ENDED: &[u8] =
+    b"edge 0 1 4 public 2;edge 0 1 2 only 3;begin;end 2;entities changed=;edges changed=0 1 4:public 2>-;end 3;edges changed=0 1 2:only 3>-,0 1 4:public 2>-;begin;edges changed=;edge 0 1 3 public 9;edges changed=0 1 3:public 0>public 9;begin;end 8;edges changed=;end 9;edges changed=0 1 3:public 9>-";
 
 fn empty(alloc: Global, limits: Limits) -> Result<Table, Fail> {
     let schema = schema(alloc).ok_or("no schema")?;
@@ -140,6 +164,47 @@ fn ends_come_by_their_number(rt: HostRuntime) -> Result<(), Fail> {
 fn a_copy_stays_as_it_is(rt: HostRuntime) -> Result<(), Fail> {
     let mut table = small(&rt, rt.alloc(), Limits::standard())?;
     follow_beside(&rt, &mut table, CUT, COPIED)
+}
+
+#[test]
+fn a_batch_of_nothing_lists_nothing(rt: HostRuntime) -> Result<(), Fail> {
+    let mut table = empty(rt.alloc(), Limits::standard())?;
+    follow(&rt, &mut table, BEGUN);
+    Ok(())
+}
+
+#[test]
+fn a_rank_lists_what_leads_there(rt: HostRuntime) -> Result<(), Fail> {
+    follow_small(&rt, rt.alloc(), Limits::standard(), MOVED)
+}
+
+#[test]
+fn an_edge_is_put_again(rt: HostRuntime) -> Result<(), Fail> {
+    follow_small(&rt, rt.alloc(), Limits::standard(), PUT_AGAIN)
+}
+
+#[test]
+fn a_user_is_added_elsewhere(rt: HostRuntime) -> Result<(), Fail> {
+    follow_small(&rt, rt.alloc(), Limits::standard(), ELSEWHERE)
+}
+
+#[test]
+fn edges_that_ended_are_listed(rt: HostRuntime) -> Result<(), Fail> {
+    follow_small(&rt, rt.alloc(), Limits::standard(), ENDED)
+}
+
+// Of 200 batches in no order each row is listed that differs from a copy from before, and no other.
+#[test]
+fn noisy_batches_are_listed(rt: HostRuntime) -> Result<(), Fail> {
+    let mut table = empty(rt.alloc(), Limits::standard())?;
+    let mut noise = Noise { state: 1 };
+    for number in 0..200u64 {
+        assert!(rt;
+            is_listed(&mut table, &mut noise) == Some(true),
+            "at {number}"
+        );
+    }
+    Ok(())
 }
 
 // Adds a user, and the edge by which photo 100 shows that user. Whether the edge is taken.

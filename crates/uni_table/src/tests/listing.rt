@@ -1,4 +1,5 @@
 //! What a table lists, beside what a step says.
+use super::changed::{has_edge_changes, has_entity_changes};
 use super::reading::{id, number, part, vertical};
 use crate::Table;
 use uni_base::{Audience, DocKey, EdgeRef, Fields, Held, Key, cut_at, read_between, read_id};
@@ -12,7 +13,7 @@ fn is_key(key: &Key, text: &[u8]) -> bool {
 }
 
 // Whether an edge has a type's number, a key and a target.
-fn is_edge(edge: &EdgeRef, text: &[u8]) -> bool {
+pub(super) fn is_edge(edge: &EdgeRef, text: &[u8]) -> bool {
     let mut fields = Fields::of(text);
     number(&mut fields) == Some(edge.type_no as u64)
         && fields.next().is_some_and(|key| is_key(&edge.key, key))
@@ -105,8 +106,7 @@ fn has_ending(table: &Table, publish: &[u8], texts: &[u8]) -> Option<bool> {
     Some(are_edges(edges.as_slice(), texts))
 }
 
-// Whether an edge between entities is for an audience: everybody, the owners alone, or a circle around an
-// entity.
+// Whether an edge between entities is for an audience.
 fn has_audience(table: &Table, edge: &[u8], text: &[u8]) -> Option<bool> {
     let mut fields = Fields::of(edge);
     let edge = EdgeRef {
@@ -114,11 +114,16 @@ fn has_audience(table: &Table, edge: &[u8], text: &[u8]) -> Option<bool> {
         key: Key::Id(id(&mut fields)?),
         target: id(&mut fields)?,
     };
-    Some(match table.audience(&edge)? {
+    Some(is_audience(&table.audience(&edge)?, text))
+}
+
+// Whether an audience is everybody, the owners alone, or a circle: `TYPE:KEY`.
+pub(super) fn is_audience(audience: &Audience, text: &[u8]) -> bool {
+    match audience {
         Audience::Public => text == b"public".as_slice(),
         Audience::Only => text == b"only".as_slice(),
-        Audience::Circle(type_no, key) => is_circle(type_no, &key, text),
-    })
+        Audience::Circle(type_no, key) => is_circle(*type_no, key, text),
+    }
 }
 
 fn is_circle(type_no: u16, key: &Key, text: &[u8]) -> bool {
@@ -131,7 +136,8 @@ fn is_circle(type_no: u16, key: &Key, text: &[u8]) -> bool {
 }
 
 // Whether the table has what is listed: `counts`, `friends USER`, `ranked VERTICAL SHARD`,
-// `kept VERTICAL SHARD`, `touching ID`, `ending PUBLISH` or `audience EDGE`.
+// `kept VERTICAL SHARD`, `touching ID`, `ending PUBLISH`, `audience EDGE`, `entities changed` or
+// `edges changed`.
 pub(super) fn lists(table: &Table, of: &[u8], texts: &[u8]) -> Option<bool> {
     let (kind, of) = part(of, b' ');
     if kind == b"counts".as_slice() {
@@ -148,6 +154,10 @@ pub(super) fn lists(table: &Table, of: &[u8], texts: &[u8]) -> Option<bool> {
         has_ending(table, of, texts)
     } else if kind == b"audience".as_slice() {
         has_audience(table, of, texts)
+    } else if kind == b"entities".as_slice() {
+        has_entity_changes(table, texts)
+    } else if kind == b"edges".as_slice() {
+        has_edge_changes(table, texts)
     } else {
         None
     }

@@ -136,11 +136,15 @@ fn put(table: &mut Table, kind: &[u8], fields: &mut Fields<'_>) -> Option<u32> {
     }
 }
 
-// Whether a change goes as it is to: `end PUBLISH`, a command that is taken, or `refused CODE COMMAND`.
+// Whether a change goes as it is to: `begin`, `end PUBLISH`, a command that is taken, or
+// `refused CODE COMMAND`.
 pub(super) fn changes(table: &mut Table, change: &[u8]) -> Option<bool> {
     let mut fields = Fields::of(change);
     let kind = fields.next()?;
-    if kind == b"end".as_slice() {
+    if kind == b"begin".as_slice() {
+        table.begin_batch();
+        Some(true)
+    } else if kind == b"end".as_slice() {
         table.end(number(&mut fields)?);
         Some(true)
     } else if kind == b"refused".as_slice() {
