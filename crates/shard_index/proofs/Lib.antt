@@ -1,0 +1,2 @@
+pub mod EntityRows
+pub mod Laws

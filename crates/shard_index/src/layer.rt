@@ -1,0 +1,67 @@
+ghost use Rattle.std.specs.Prelude.{◌≡◌, IfOk};
+ghost use Rattle.shard_index.specs.Rows.{entries};
+
+use crate::EntityLayer;
+use forward_data::ForwardLayer;
+use layer_stack::Layer;
+use std::alloc::AllocError;
+use std::marker::Model;
+use std::sync::Arc;
+
+/// One layer of a shard: its entities, its postings and its forward records, each of which other
+/// layers and stacks may share.
+#[derive(Drop)]
+pub struct ShardLayer {
+    pub(crate) entities: Arc<EntityLayer>,
+    pub(crate) postings: Arc<Layer>,
+    pub(crate) forward: Arc<ForwardLayer>,
+}
+
+impl Model for ShardLayer {
+    ghost use Rattle.std.specs.Coded.{codes};
+    ghost use Rattle.std.specs.FinMap as finite;
+    ghost use Rattle.shard_index.specs.Rows.{ShardChanges};
+
+    ghost Value = { ShardChanges };
+
+    ghost coded = { Prim.hlevel (codes, finite.code) };
+
+    ghost view = { λ l. record { entities = l.entities.value; postings = l.postings.value; records = l.forward.value } };
+}
+
+impl ShardLayer {
+    /// The layer of three parts.
+    pub fn join(
+        entities: Arc<EntityLayer>,
+        postings: Arc<Layer>,
+        forward: Arc<ForwardLayer>,
+    ) -> ShardLayer
+        ensures { result ≡ record { entities = entities.value; postings = postings.value; records = forward.value } }
+    {
+        ShardLayer {
+            entities,
+            postings,
+            forward,
+        }
+    }
+
+    /// An equal layer over the same three parts.
+    pub fn share(&self) -> Result<ShardLayer, AllocError>
+        ensures { IfOk result (λ layer. layer ≡ self.now) }
+    {
+        Ok(ShardLayer {
+            entities: Arc::try_clone(&self.entities)?,
+            postings: Arc::try_clone(&self.postings)?,
+            forward: Arc::try_clone(&self.forward)?,
+        })
+    }
+
+    /// The number of the entries of its three parts. Its sum is exact, so it has 128 bits.
+    pub fn entries(&self) -> u128
+        ensures { result ≡ entries self.now }
+    {
+        self.entities.entries() as u128
+            + self.postings.entries() as u128
+            + self.forward.entries() as u128
+    }
+}

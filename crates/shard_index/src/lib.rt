@@ -1,0 +1,11 @@
+//! The index of one shard: its entities, the postings of its index edges and its forward records, as
+//! one stack of layers.
+#![tactic(auto)]
+
+mod delta;
+mod entities;
+mod layer;
+
+pub use delta::EntityDelta;
+pub use entities::EntityLayer;
+pub use layer::ShardLayer;
