@@ -4,8 +4,12 @@
 
 mod delta;
 mod entities;
+mod index;
 mod layer;
+mod merge;
+mod ranks;
 
 pub use delta::EntityDelta;
 pub use entities::EntityLayer;
+pub use index::{ShardIndex, TermCursor};
 pub use layer::ShardLayer;
