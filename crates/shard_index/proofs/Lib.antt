@@ -1,6 +1,12 @@
+pub mod BaseRows
 pub mod EntityRows
 pub mod FullRecords
+pub mod FullRows
 pub mod IndexParts
 pub mod JoinedLayers
+pub mod KeptEdges
 pub mod Laws
 pub mod MergedTables
+pub mod RecordRows
+pub mod RecordRuns
+pub mod Squeezed

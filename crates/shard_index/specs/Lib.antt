@@ -1,3 +1,4 @@
+pub mod Begun
 pub mod Entities
 pub mod Joined
 pub mod Rows

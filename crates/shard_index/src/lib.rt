@@ -2,12 +2,14 @@
 //! one stack of layers.
 #![tactic(auto)]
 
+mod base;
 mod delta;
 mod entities;
 mod index;
 mod layer;
 mod merge;
 mod ranks;
+mod records;
 
 pub use delta::EntityDelta;
 pub use entities::EntityLayer;
