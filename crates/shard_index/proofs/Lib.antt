@@ -10,3 +10,5 @@ pub mod MergedTables
 pub mod RecordRows
 pub mod RecordRuns
 pub mod Squeezed
+pub mod StackPlaces
+pub mod Standing

@@ -72,12 +72,14 @@ ahead_none (x ∷ []) h post rising begins = (settled (starts_as h x) (λ t. con
 ahead_none (x ∷ y ∷ pre) h post rising begins =
     let rest = ahead_none (y ∷ pre) h post rising.1 begins in
     let low : edge_cmp x.edge y.edge ≡ Less = rising.0.0 in
-    let high : edge_cmp y.edge h.edge ≡ Less = before_it y pre h post rising.1.0 in
-    (settled (starts_as h x) (λ t.
-        let ends : Alike x h = alike_back h x (alike_from h x t) in
-        let middle : Alike x y = squeezed x y h low high ends in
-        let same : Alike h y = record { types = sym ends.types ∙ middle.types; keys = sym ends.keys ∙ middle.keys } in
-        contrary (starts_as h y) (starts_from h y same) rest.0), rest)
+    let high : edge_cmp y.edge h.edge ≡ Less = before_it y pre h post rising.1.0 in (
+      settled (starts_as h x) (λ t.
+          let ends : Alike x h = alike_back h x (alike_from h x t) in
+          let middle : Alike x y = squeezed x y h low high ends in
+          let same : Alike h y = record { types = sym ends.types ∙ middle.types; keys = sym ends.keys ∙ middle.keys } in
+          contrary (starts_as h y) (starts_from h y same) rest.0),
+      rest,
+    )
 
 rising_from : (pre : List Held) (h : Held) (post : List Held) → AreRising (pre ++ h ∷ post) → AreRising (h ∷ post)
 unfolding IsStrictlySortedBy

@@ -1,10 +1,10 @@
 ghost use Rattle.std.specs.Prelude.{◌≡◌, IfOk};
-ghost use Rattle.shard_index.specs.Rows.{entries};
+ghost use Rattle.shard_index.specs.Rows.{empty_layer, entries};
 
-use crate::EntityLayer;
-use forward_data::ForwardLayer;
-use layer_stack::Layer;
-use std::alloc::AllocError;
+use crate::{EntityDelta, EntityLayer};
+use forward_data::{ForwardDelta, ForwardLayer};
+use layer_stack::{Delta, Layer};
+use std::alloc::{AllocError, Global};
 use std::marker::Model;
 use std::sync::Arc;
 
@@ -43,6 +43,20 @@ impl ShardLayer {
             postings,
             forward,
         }
+    }
+
+    /// The layer that changes nothing.
+    pub fn empty(alloc: Global) -> Result<ShardLayer, AllocError>
+        ensures { IfOk result (λ layer. layer ≡ empty_layer) }
+    {
+        let entities = EntityLayer::build(EntityDelta::new(alloc))?;
+        let postings = Layer::build(alloc, Delta::new(alloc))?;
+        let forward = ForwardLayer::build(ForwardDelta::new(alloc))?;
+        Ok(ShardLayer::join(
+            Arc::new(alloc, entities)?,
+            Arc::new(alloc, postings)?,
+            Arc::new(alloc, forward)?,
+        ))
     }
 
     /// An equal layer over the same three parts.

@@ -8,10 +8,14 @@ mod entities;
 mod index;
 mod layer;
 mod merge;
+mod places;
 mod ranks;
 mod records;
+mod stacks;
+mod version;
 
 pub use delta::EntityDelta;
 pub use entities::EntityLayer;
 pub use index::{ShardIndex, TermCursor};
 pub use layer::ShardLayer;
+pub use version::Version;

@@ -1,0 +1,53 @@
+ghost use Rattle.std.specs.Prelude.{◌≡◌, ◌<◌, ◌++◌, ◌∷◌, [], length, map, replicate, IfOk, OnOk};
+ghost use Rattle.shard_index.specs.Places.{places_in, stack_places};
+ghost use Rattle.shard_index.specs.Rows.{stack_rows};
+ghost use Rattle.shard_index.specs.Versions.{layers_of, rows_at};
+
+use crate::{ShardIndex, ShardLayer};
+use std::alloc::{AllocError, Global};
+use uni_table::Table;
+
+// Adds stacks of one layer that they share.
+pub(crate) fn add_stacks(
+    alloc: Global,
+    base: &ShardLayer,
+    count: usize,
+    stacks: &mut Vec<ShardIndex>,
+) -> Result<(), AllocError>
+    ensures { OnOk result (layers_of stacks.new.items ≡ layers_of stacks.old.items ++ replicate count (base.now ∷ [])) }
+{
+    for _ in 0..count {
+        let stack = ShardIndex::of(alloc, base.share()?)?;
+        stacks.push(stack)?;
+    }
+    Ok(())
+}
+
+// The stacks of all shards of a table, each of one layer.
+pub(crate) fn table_stacks(alloc: Global, table: &Table) -> Result<Vec<ShardIndex>, AllocError>
+    ensures { IfOk result (λ stacks. map stack_rows (layers_of stacks.items) ≡ map (rows_at table.now.schema table.now.contents) (stack_places table.now.schema)) }
+{
+    let mut stacks = Vec::new(alloc);
+    for vertical in 0..table.schema().verticals() {
+        add_vertical(alloc, table, vertical, &mut stacks)?;
+    }
+    Ok(stacks)
+}
+
+// Adds the stacks of the shards of a vertical.
+fn add_vertical(
+    alloc: Global,
+    table: &Table,
+    vertical: u16,
+    stacks: &mut Vec<ShardIndex>,
+) -> Result<(), AllocError>
+    requires { vertical < length table.now.schema.verticals }
+    ensures { OnOk result (map stack_rows (layers_of stacks.new.items) ≡ map stack_rows (layers_of stacks.old.items) ++ map (rows_at table.now.schema table.now.contents) (places_in table.now.schema vertical)) }
+{
+    let declared = *table.schema().vertical(vertical);
+    for shard in 0..declared.shards {
+        let base = ShardLayer::base(alloc, table, vertical, shard)?;
+        add_stacks(alloc, &base, declared.replicas as usize, stacks)?;
+    }
+    Ok(())
+}
