@@ -1,5 +1,5 @@
 -- None of the records of edges is empty.
-use Rattle.std.proofs.Common.{◌≡◌, ℕ, Bool, true, false, cond, List, [], ◌∷◌, ◌++◌, map, filter, reverse, Option, None, Some, refl, sym, ◌∙◌, ap, subst}
+use Rattle.std.proofs.Common.{◌≡◌, Bool, true, false, cond, List, [], ◌∷◌, ◌++◌, map, filter, reverse, Option, None, Some, refl, sym, ◌∙◌, ap, subst}
 use Rattle.std.proofs.lemmas.List.{reverse-append}
 use Rattle.std.specs.FinMap as finite
 use Rattle.std.specs.List.{filter_map, cons_option, AllByRecursion}
@@ -9,14 +9,13 @@ use Rattle.uni_base.specs.declared.edge.Held.{Held}
 use Rattle.uni_base.specs.declared.edge.Key.TheVariants.{Id}
 use Rattle.uni_schema.specs.Schema.{Declarations}
 use Rattle.uni_table.specs.Contents.{starts_at}
-use Rattle.layer_base.specs.Layers.{from_log}
 use Rattle.forward_data.specs.declared.record.ForwardItem.{ForwardItem}
 use Rattle.forward_data.specs.declared.record.RecordKey.{RecordKey}
-use Rattle.forward_data.specs.Records.{Records, record_cmp, AreFull}
+use Rattle.forward_data.specs.Records.{record_cmp, AreFull}
 use Rattle.forward_data.proofs.Order.{record_total}
 use Rattle.shard_index.specs.Begun.{starts_as}
 use Rattle.shard_index.specs.Shards.{item_of, items_from, record_of_edge, record_row}
-use Rattle.shard_index.proofs.RecordRows.{Keyed, keyed, records_in}
+use Rattle.shard_index.proofs.RecordRows.{keyed, records_in}
 use Rattle.shard_index.proofs.RecordRuns.{starts_itself}
 
 abbrev IsFullRow : RecordKey × List ForwardItem → Type 0

@@ -1,5 +1,5 @@
 -- The three parts of an index, by its layers.
-use Rattle.std.proofs.Common.{◌≡◌, ℕ, suc, ◌+◌, ◌<◌, List, [], ◌∷◌, ◌++◌, map, length, drop, get_or, Option, None, Some, refl, sym, ◌∙◌, ap, arith, slice_get, drop-cons, append_assoc}
+use Rattle.std.proofs.Common.{◌≡◌, ℕ, suc, ◌+◌, List, [], ◌∷◌, ◌++◌, map, length, drop, Some, sym, ◌∙◌, ap, arith, slice_get, drop-cons, append_assoc}
 use Rattle.std.proofs.lemmas.Option.{get_or_from_slice_get, slice_get_within}
 use Rattle.layer_stack.specs.Postings.{PostingChanges}
 use Rattle.forward_data.specs.Records.{Records}

@@ -1,9 +1,8 @@
 -- The layers of three stacks of the same length.
-use Rattle.std.proofs.Common.{◌≡◌, ℕ, zero, suc, ◌+◌, ◌<◌, List, [], ◌∷◌, ◌++◌, map, length, Option, None, Some, refl, sym, ◌∙◌, ap, arith, slice_get}
+use Rattle.std.proofs.Common.{◌≡◌, ℕ, zero, suc, List, [], ◌∷◌, ◌++◌, map, length, Some, refl, ap, arith, slice_get}
 use Rattle.layer_stack.specs.Postings.{PostingChanges}
 use Rattle.forward_data.specs.Records.{Records}
 use Rattle.shard_index.specs.Entities.{EntityChanges}
-use Rattle.shard_index.specs.Rows.{ShardChanges}
 use Rattle.shard_index.specs.Joined.{layer_of, joined, AreAsLong}
 
 later : (e : EntityChanges) (p : PostingChanges) (f : Records) (es : List EntityChanges) (ps : List PostingChanges) (fs : List Records) → AreAsLong (e ∷ es) (p ∷ ps) (f ∷ fs) → AreAsLong es ps fs

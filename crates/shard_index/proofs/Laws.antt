@@ -1,14 +1,12 @@
 -- The public laws of stacks of a shard's layers.
-use Rattle.std.proofs.Common.{◌≡◌, ℕ, ◌+◌, List, [], ◌∷◌, ◌++◌, map, take, drop, refl, sym, ◌∙◌, ap, subst}
+use Rattle.std.proofs.Common.{◌≡◌, ℕ, List, [], ◌∷◌, ◌++◌, map, take, drop, refl, sym, ◌∙◌, ap, subst}
 use Rattle.std.specs.Cmp.{nat_cmp_total}
 use Rattle.std.specs.FinMap as finite
-use Rattle.std.specs.Ordering.{nat_cmp}
 use Rattle.std.proofs.lemmas.List.{take-append-drop, take-map}
-use Rattle.layer_base.specs.Changes.{after}
 use Rattle.layer_base.specs.Layers.{layer_over as table_over, stack_over as table_stack_over, stack_table}
 use Rattle.layer_stack.specs.Postings.{putting_all}
 use Rattle.layer_stack.proofs.Order.{place_total, place_apart}
-use Rattle.forward_data.specs.Records.{replacing, records_over, records_from, records_of, record_cmp, AreFull}
+use Rattle.forward_data.specs.Records.{records_over, records_from, records_of, AreFull}
 use Rattle.forward_data.proofs.Newest.{full_of}
 use Rattle.shard_index.specs.Entities.{putting_entities}
 use Rattle.shard_index.specs.Rows.{ShardRows, ShardChanges, no_rows, empty_layer, layer_over, stack_over, stack_rows}

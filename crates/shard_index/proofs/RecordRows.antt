@@ -1,10 +1,8 @@
 -- The records of edges, one edge after another.
-use Rattle.std.proofs.Common.{◌≡◌, ℕ, ◌+◌, ◌<◌, Bool, true, false, cond, if◌then◌else◌, List, [], ◌∷◌, ◌++◌, map, filter, take, drop, length, get_or, Option, None, Some, refl, sym, ◌∙◌, ap, subst, append-nil}
-use Rattle.std.proofs.lemmas.List.{take_more, take-append-drop}
+use Rattle.std.proofs.Common.{◌≡◌, Bool, true, false, cond, if◌then◌else◌, List, [], ◌∷◌, ◌++◌, map, filter, Option, None, Some, refl, sym, ◌∙◌, ap, subst, append-nil}
 use Rattle.std.proofs.lemmas.List.Elements.{filter_map-append}
-use Rattle.std.proofs.lemmas.Option.{get_or_from_slice_get}
 use Rattle.std.specs.FinMap as finite
-use Rattle.std.specs.List.{filter_map, cons_option, slice_get, take_while}
+use Rattle.std.specs.List.{filter_map, cons_option, take_while}
 use Rattle.std.specs.Option.{option_map}
 use Rattle.std.specs.Ordering.{eq_by_cmp}
 use Rattle.uni_base.specs.declared.edge.Held.{Held}
@@ -21,7 +19,6 @@ use Rattle.forward_data.specs.Records.{Records, record_key, record_cmp}
 use Rattle.forward_data.proofs.Order.{record_total, record_apart}
 use Rattle.shard_index.specs.Begun.{starts_as, begun_behind, last_of}
 use Rattle.shard_index.specs.Shards.{item_of, items_from, record_of_edge, record_row}
-use Rattle.shard_index.proofs.IndexParts.{drop_at}
 use Rattle.shard_index.proofs.RecordRuns.{AreRising, Begins, whole}
 use Rattle.shard_index.proofs.Squeezed.{Alike, alike_from}
 

@@ -1,5 +1,5 @@
 -- The places of the stacks of a version.
-use Rattle.std.proofs.Common.{◌≡◌, ℕ, zero, suc, ◌+◌, ◌*◌, ◌<◌, ◌≤◌, ◌&&◌, Bool, true, false, List, [], ◌∷◌, ◌++◌, map, take, length, Option, None, Some, refl, sym, ◌∙◌, ap, subst, arith, slice_get, append_assoc, append-nil, length-append, sum_by}
+use Rattle.std.proofs.Common.{◌≡◌, ℕ, zero, suc, ◌+◌, ◌*◌, ◌<◌, ◌≤◌, ◌&&◌, Bool, true, false, List, [], ◌∷◌, ◌++◌, map, take, length, Option, None, Some, refl, sym, ◌∙◌, ap, arith, slice_get, append_assoc, append-nil, length-append, sum_by}
 use Rattle.std.proofs.lemmas.List.{take_more, length-take-le}
 use Rattle.std.proofs.lemmas.Bool.Decides.{nat_tests}
 use Rattle.std.proofs.lemmas.Grind.{flat_map-append}
@@ -13,7 +13,7 @@ use Rattle.std.specs.List.{flat_map, range_with_len}
 use Rattle.std.specs.Option.{option_map_or}
 use Rattle.uni_schema.specs.declared.schema.VerticalDef.{VerticalDef}
 use Rattle.uni_schema.specs.Schema.{Declarations, vertical_at, is_vertical}
-use Rattle.shard_index.specs.Places.{StackPlace, stack_place, shard_places, vertical_places, places_from, stack_places, shards_in, replicas_in, IsStack, stacks_of, stack_count, stack_no}
+use Rattle.shard_index.specs.Places.{stack_place, shard_places, vertical_places, places_from, stack_places, replicas_in, IsStack, stacks_of, stack_count, stack_no}
 
 get_left : {X : Type 0} (xs ys : List X) (i : ℕ) → i < length xs → slice_get (xs ++ ys) i ≡ slice_get xs i
 get_left [] ys i fits = absurd (omega arith)

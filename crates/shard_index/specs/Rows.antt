@@ -1,5 +1,5 @@
 -- The rows of a shard, and what a stack of layers stands for.
-use Rattle.std.specs.Prelude.{ℕ, Bool, false, ◌+◌, List, [], ◌∷◌, map, is_some}
+use Rattle.std.specs.Prelude.{ℕ, Bool, false, ◌+◌, List, [], ◌∷◌, is_some}
 use Rattle.std.specs.Option.{unwrap_or, option_map_or}
 use Rattle.std.specs.FinMap as finite
 use Rattle.uni_base.specs.declared.edge.EdgeRef.{EdgeRef}

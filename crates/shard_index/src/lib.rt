@@ -12,6 +12,8 @@ mod places;
 mod ranks;
 mod records;
 mod stacks;
+#[cfg(test)]
+mod tests;
 mod version;
 
 pub use delta::EntityDelta;

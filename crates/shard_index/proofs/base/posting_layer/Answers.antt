@@ -1,5 +1,4 @@
 use Rattle.std.proofs.Common.{rules, ◌≡◌, ◌<◌, None, Some, length, ap, ◌∙◌, sym, subst}
-use Rattle.std.specs.Option.{option_map}
 use Rattle.uni_base.specs.declared.edge.Held.{Held}
 use Rattle.layer_stack.specs.Postings.{place_of, putting}
 use Rattle.shard_index.specs.Shards.{posting_row}

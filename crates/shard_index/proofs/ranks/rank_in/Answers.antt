@@ -1,4 +1,4 @@
-use Rattle.std.proofs.Common.{rules, arith, ◌≡◌, take, ap, ◌∙◌, sym}
+use Rattle.std.proofs.Common.{rules, ◌≡◌, take, ap, ◌∙◌, sym}
 use Rattle.std.specs.Cmp.{nat_cmp_total}
 use Rattle.std.specs.FinMap as finite
 use Rattle.std.specs.Ordering.{nat_cmp}

@@ -1,4 +1,4 @@
-use Rattle.std.proofs.Common.{rules, ◌≡◌, ◌+◌, ◌++◌, ◌∷◌, [], true, false, map, drop, ap, ◌∙◌, sym}
+use Rattle.std.proofs.Common.{rules, ◌≡◌, ◌+◌, ◌++◌, ◌∷◌, [], true, false, map, drop, ap, ◌∙◌}
 use Rattle.std.specs.List.{take_while}
 use Rattle.shard_index.specs.Begun.{starts_as}
 use Rattle.shard_index.specs.Shards.{item_of}

@@ -1,9 +1,7 @@
-use Rattle.std.proofs.Common.{rules, arith, ◌≡◌, ◌+◌, ◌-◌, ◌++◌, length, ◌∷◌, [], None, Some, take, drop, map, ap, ◌∙◌, sym, subst}
+use Rattle.std.proofs.Common.{rules, arith, ◌≡◌, ◌+◌, ◌-◌, ◌++◌, length, ◌∷◌, [], Some, take, drop, map, ap, ◌∙◌, sym}
 use Rattle.std.proofs.lemmas.List.{take_more, take_all, take-append-drop, length-drop}
 use Rattle.std.specs.FinMap as finite
 use Rattle.std.specs.List.{take_while}
-use Rattle.uni_base.specs.declared.edge.Held.{Held}
-use Rattle.forward_data.specs.Records.{record_key}
 use Rattle.shard_index.specs.Begun.{starts_as, begun_behind, last_of}
 use Rattle.shard_index.specs.Shards.{item_of}
 use Rattle.shard_index.proofs.RecordRows.{records_in, last_more, begins_none, begins_record}

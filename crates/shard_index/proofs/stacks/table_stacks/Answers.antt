@@ -1,4 +1,4 @@
-use Rattle.std.proofs.Common.{rules, arith, ◌<◌, length, map}
+use Rattle.std.proofs.Common.{rules, ◌<◌, length, map}
 use Rattle.shard_index.specs.Rows.{stack_rows}
 use Rattle.shard_index.specs.Versions.{layers_of}
 use Rattle.shard_index.proofs.Standing.{vertical_added}

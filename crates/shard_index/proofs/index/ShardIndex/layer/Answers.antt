@@ -1,6 +1,4 @@
 use Rattle.std.proofs.Common.{rules, arith, ◌≡◌, Some, ap, ◌∙◌, sym, slice_get}
-use Rattle.std.specs.Option.{option_map}
-use Rattle.shard_index.specs.Rows.{entries}
 use Rattle.shard_index.specs.Joined.{layer_of}
 use Rattle.shard_index.proofs.IndexParts.{parts_of}
 use Rattle.shard_index.proofs.JoinedLayers.{slice_get-joined}

@@ -1,5 +1,5 @@
-use Rattle.std.proofs.Common.{◌≡◌, ◌++◌, ◌∷◌, [], ap, ◌∙◌}
-use Rattle.shard_index.specs.Joined.{joined, layer_of}
+use Rattle.std.proofs.Common.{◌++◌, ◌∷◌, [], ◌∙◌}
+use Rattle.shard_index.specs.Joined.{joined}
 use Rattle.shard_index.proofs.JoinedLayers.{joined-snoc}
 use Rattle.shard_index.proofs.index.ShardIndex.push_layer_reserved.Goals as goal
 

@@ -9,8 +9,7 @@ use Rattle.uni_table.specs.Shards.{AreDeclared}
 use Rattle.layer_base.specs.Layers.{from_log}
 use Rattle.layer_stack.specs.Postings.{putting_all}
 use Rattle.shard_index.specs.Entities.{putting_entities}
-use Rattle.shard_index.specs.Rows.{ShardChanges}
-use Rattle.shard_index.specs.Shards.{entity_row, posting_row, record_row, shard_rows}
+use Rattle.shard_index.specs.Shards.{entity_row, posting_row, shard_rows}
 use Rattle.shard_index.proofs.FullRows.{records_full}
 use Rattle.shard_index.proofs.KeptEdges.{edges_declared, edges_rise}
 use Rattle.shard_index.proofs.Laws.{base_stands}

@@ -1,9 +1,9 @@
-use Rattle.std.proofs.Common.{rules, ◌≡◌, ◌++◌, ◌∷◌, [], replicate, map, ap, ◌∙◌, sym, subst}
+use Rattle.std.proofs.Common.{rules, ◌≡◌, ◌++◌, ◌∷◌, [], replicate, map, ap, ◌∙◌}
 use Rattle.std.specs.Arc.{arc_value}
 use Rattle.uni_table.specs.Contents.{empty}
-use Rattle.shard_index.specs.Places.{stack_count, stack_places}
+use Rattle.shard_index.specs.Places.{stack_count}
 use Rattle.shard_index.specs.Rows.{empty_layer, stack_rows}
-use Rattle.shard_index.specs.Versions.{AreStacks, layers_of, rows_at}
+use Rattle.shard_index.specs.Versions.{layers_of}
 use Rattle.shard_index.proofs.Standing.{are_stacks, empty_stands}
 use Rattle.shard_index.proofs.version.Version.empty.Goals as goal
 
