@@ -18,7 +18,7 @@ use Rattle.shard_index.specs.Shards.{item_of, items_from, record_of_edge, record
 use Rattle.shard_index.proofs.RecordRows.{keyed, records_in}
 use Rattle.shard_index.proofs.RecordRuns.{starts_itself}
 
-abbrev IsFullRow : RecordKey × List ForwardItem → Type 0
+abbrev pub IsFullRow : RecordKey × List ForwardItem → Type 0
 IsFullRow row = row.1 ≡ [] → ⊥
 
 -- ---- rows, in the other order
@@ -41,7 +41,7 @@ full_entries (x ∷ es) all q e = by (eq_by_cmp record_cmp q x.0) (sym (finite.g
 
 -- ---- each edge is in its record
 
-abbrev Holds : List Held → Held → Type 0
+abbrev pub Holds : List Held → Held → Type 0
 Holds all h = filter (starts_as h) all ≡ [] → ⊥
 
 holds_more : (x h : Held) (all : List Held) → Holds all h → Holds (x ∷ all) h
@@ -58,7 +58,7 @@ each_more x all (h ∷ sub) each = (holds_more x h all each.0, each_more x all s
 holds_itself : (x : Held) (all : List Held) → Holds (x ∷ all) x
 holds_itself x all e = let itself = sym (ap (λ b. cond b (x ∷ filter (starts_as x) all) (filter (starts_as x) all)) (starts_itself x)) ∙ e in absurd cc
 
-each_holds : (all : List Held) → AllByRecursion (Holds all) all
+pub each_holds : (all : List Held) → AllByRecursion (Holds all) all
 each_holds [] = tt
 each_holds (x ∷ all) = (holds_itself x all, each_more x all all (each_holds all))
 
@@ -72,7 +72,7 @@ module _ (schema : Declarations) (all : List Held) where
       let at = keyed schema all h key is in
       holds ((λ i. filter (λ x. starts_at (sym at.types i) (sym at.keys i) x.edge) all) ∙ map_nil (filter (λ x. starts_at key.type_no (Id key.id) x.edge) all) e)
 
-  rows_full : (sub : List Held) → AllByRecursion (Holds all) sub → AllByRecursion IsFullRow (filter_map (record_row schema all) sub)
+  pub rows_full : (sub : List Held) → AllByRecursion (Holds all) sub → AllByRecursion IsFullRow (filter_map (record_row schema all) sub)
   rows_full [] each = tt
   rows_full (h ∷ sub) each = by (record_of_edge schema h) refl (rows_full sub each.1) each.0
     where

@@ -9,7 +9,7 @@ use Rattle.shard_index.specs.Places.{StackPlace, stack_place, shard_places, vert
 use Rattle.shard_index.specs.Rows.{ShardRows, ShardChanges, no_rows, empty_layer, layer_over, stack_rows}
 use Rattle.shard_index.specs.Shards.{shard_rows}
 use Rattle.shard_index.specs.Versions.{rows_at, AreStacks}
-use Rattle.shard_index.proofs.Laws.{layer_over-empty}
+use Rattle.shard_index.proofs.StackLaws.{layer_over-empty}
 use Rattle.shard_index.proofs.StackPlaces.{count_is, shard_more, vertical_more, found_below}
 
 -- the empty table has no rows

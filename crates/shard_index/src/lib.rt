@@ -6,6 +6,7 @@ mod base;
 mod delta;
 mod entities;
 mod index;
+pub mod laws;
 mod layer;
 mod merge;
 mod places;

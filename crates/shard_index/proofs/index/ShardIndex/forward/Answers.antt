@@ -3,7 +3,7 @@ use Rattle.std.specs.FinMap as finite
 use Rattle.std.specs.Option.{unwrap_or}
 use Rattle.forward_data.specs.Records.{record_key, record_of}
 use Rattle.shard_index.proofs.IndexParts.{parts_of}
-use Rattle.shard_index.proofs.Laws.{records_of-stack}
+use Rattle.shard_index.proofs.StackLaws.{records_of-stack}
 use Rattle.shard_index.proofs.index.ShardIndex.forward.Goals as goal
 
 pub returns : goal.returns

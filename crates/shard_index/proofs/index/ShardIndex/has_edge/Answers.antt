@@ -6,7 +6,7 @@ use Rattle.layer_stack.specs.Places.{term_of}
 use Rattle.layer_stack.specs.Postings.{place_of}
 use Rattle.shard_index.specs.Rows.{stack_rows}
 use Rattle.shard_index.proofs.IndexParts.{parts_of}
-use Rattle.shard_index.proofs.Laws.{postings_of-stack}
+use Rattle.shard_index.proofs.StackLaws.{postings_of-stack}
 use Rattle.shard_index.proofs.index.ShardIndex.has_edge.Goals as goal
 
 pub returns : goal.returns

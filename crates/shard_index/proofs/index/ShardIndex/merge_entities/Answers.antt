@@ -7,7 +7,7 @@ use Rattle.shard_index.specs.Entities.{EntityChanges, putting_entities}
 use Rattle.shard_index.specs.Rows.{ShardChanges, stack_rows}
 use Rattle.shard_index.proofs.EntityRows.{id_apart}
 use Rattle.shard_index.proofs.IndexParts.{parts_of}
-use Rattle.shard_index.proofs.Laws.{entities_of-stack}
+use Rattle.shard_index.proofs.StackLaws.{entities_of-stack}
 use Rattle.shard_index.proofs.MergedTables.{front_same}
 use Rattle.shard_index.proofs.index.ShardIndex.merge_entities.Goals as goal
 

@@ -2,7 +2,7 @@ use Rattle.std.proofs.Common.{ap, ◌∙◌, sym}
 use Rattle.std.specs.FinMap as finite
 use Rattle.layer_base.specs.Layers.{stack_table}
 use Rattle.shard_index.proofs.IndexParts.{parts_of}
-use Rattle.shard_index.proofs.Laws.{entities_of-stack}
+use Rattle.shard_index.proofs.StackLaws.{entities_of-stack}
 use Rattle.shard_index.proofs.index.ShardIndex.rank_of.Goals as goal
 
 pub returns : goal.returns

@@ -3,7 +3,7 @@ use Rattle.std.specs.Result.{IfOk}
 use Rattle.layer_base.specs.Layers.{stack_table}
 use Rattle.layer_stack.specs.Postings.{postings_of}
 use Rattle.shard_index.proofs.IndexParts.{parts_of}
-use Rattle.shard_index.proofs.Laws.{postings_of-stack}
+use Rattle.shard_index.proofs.StackLaws.{postings_of-stack}
 use Rattle.shard_index.proofs.index.ShardIndex.term_cursor.Goals as goal
 
 pub returns : goal.returns

@@ -12,7 +12,7 @@ use Rattle.shard_index.specs.Entities.{putting_entities}
 use Rattle.shard_index.specs.Shards.{entity_row, posting_row, shard_rows}
 use Rattle.shard_index.proofs.FullRows.{records_full}
 use Rattle.shard_index.proofs.KeptEdges.{edges_declared, edges_rise}
-use Rattle.shard_index.proofs.Laws.{base_stands}
+use Rattle.shard_index.proofs.StackLaws.{base_stands}
 use Rattle.shard_index.proofs.RecordRows.{records_in}
 use Rattle.shard_index.proofs.RecordRuns.{AreRising}
 use Rattle.shard_index.proofs.layer.ShardLayer.base.Goals as goal

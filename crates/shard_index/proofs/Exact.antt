@@ -1,0 +1,10 @@
+-- The rows of a shard have exactly what the table has there.
+use Rattle.shard_index.specs.Laws.{RowsAreExact}
+use Rattle.shard_index.proofs.ReadRanks.{ranks_read}
+use Rattle.shard_index.proofs.ReadRecords.{records_read}
+
+pub rows_are_exact : RowsAreExact
+rows_are_exact = record {
+  ranks = λ schema limits table vertical shard id kept. ranks_read schema limits table vertical shard kept id;
+  records = λ schema table vertical shard number id of_type of_shard. records_read schema table vertical shard number id of_type of_shard;
+}
