@@ -7,13 +7,16 @@ pub mod FullRows
 pub mod IndexParts
 pub mod JoinedLayers
 pub mod KeptEdges
-pub mod StackLaws
 pub mod LoggedMaps
 pub mod MergedTables
+pub mod ReadEdges
+pub mod ReadPostings
 pub mod ReadRanks
 pub mod ReadRecords
+pub mod ReadTerms
 pub mod RecordRows
 pub mod RecordRuns
 pub mod Squeezed
+pub mod StackLaws
 pub mod StackPlaces
 pub mod Standing

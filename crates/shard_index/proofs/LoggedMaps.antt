@@ -46,7 +46,7 @@ module _ {K X : Type 0} (R : K → K → Ordering) (q : K) (answer : Option X) w
   abbrev pub stands_there : List (K × X) → Bool
   stands_there rows = list_any (λ row. eq_by_cmp R q row.0) rows
 
-  found : (rows : List (K × X)) → Agree rows → (stands_there rows ≡ false → answer ≡ None) → find R q rows ≡ answer
+  pub found : (rows : List (K × X)) → Agree rows → (stands_there rows ≡ false → answer ≡ None) → find R q rows ≡ answer
   found [] agree missing = sym (missing refl)
   found (row ∷ rows) agree missing = by (eq_by_cmp R q row.0) refl (found rows agree.1)
     where

@@ -1,31 +1,53 @@
 -- What the rows of a shard have, one by one, of a table that keeps what tables keep.
-use Rattle.std.specs.Prelude.{◌≡◌, ℕ, Bool, true, if◌then◌else◌, List, Option, Some, None, map, filter}
-use Rattle.std.specs.Option.{option_and_then}
+use Rattle.std.specs.Prelude.{◌≡◌, ◌==◌, ◌&&◌, ℕ, Bool, true, false, if◌then◌else◌, List, Option, Some, None, map, filter}
+use Rattle.std.specs.List.{filter_map}
+use Rattle.std.specs.Option.{option_and_then, option_map, option_map_or}
 use Rattle.std.specs.FinMap as finite
 use Rattle.uni_base.specs.declared.edge.EdgeRef.{EdgeRef}
+use Rattle.uni_base.specs.declared.edge.Key.{Key}
 use Rattle.uni_base.specs.declared.edge.Key.TheVariants.{Id}
+use Rattle.uni_base.specs.declared.entity.DocKey.{DocKey}
 use Rattle.uni_base.specs.declared.entity.Rank.{Rank}
 use Rattle.uni_base.specs.declared.limits.Limits.{Limits}
-use Rattle.uni_schema.specs.Schema.{Declarations, shard_of}
+use Rattle.uni_schema.specs.Schema.{Declarations, type_at, shard_of, is_index}
 use Rattle.uni_table.specs.declared.command.EntityRow.{EntityRow}
-use Rattle.uni_table.specs.Contents.{Contents, entity_at, starts_at, has_edge as table_has_edge}
-use Rattle.uni_table.specs.Lists.{held_of, is_kept_in}
-use Rattle.uni_table.specs.Ranked.{is_of_shard}
+use Rattle.uni_table.specs.Contents.{Contents, entity_at, audience_at, starts_at, has_edge as table_has_edge}
+use Rattle.uni_table.specs.Lists.{held_of}
+use Rattle.uni_table.specs.Ranked.{is_of_shard, ranked}
 use Rattle.uni_table.specs.Shards.{is_forward_type}
-use Rattle.uni_table.specs.TableState.{IsKept, is_forward}
+use Rattle.uni_table.specs.TableState.{IsKept}
+use Rattle.posting_lists.specs.declared.posting.Posting.{Posting}
+use Rattle.layer_stack.specs.Places.{term_of}
 use Rattle.forward_data.specs.Records.{record_key}
-use Rattle.shard_index.specs.Rows.{has_edge, record_at}
+use Rattle.shard_index.specs.Rows.{has_edge, term_postings, record_at}
 use Rattle.shard_index.specs.Shards.{item_of, shard_rows}
 
 -- the rank of an id, where it is that of an entity of the shard
 abbrev pub rank_in_shard : Declarations → Contents → ℕ → ℕ → ℕ → Option Rank
 rank_in_shard schema table vertical shard id = option_and_then (λ (row : EntityRow). if is_of_shard schema vertical shard (id, row) then Some row.rank else None) (entity_at table id)
 
--- each entity of the shard has its rank, and no other id has one; of the index edges that the shard keeps,
--- and of no others of that kind, there is a posting where the table has the edge; and the record of a type
--- and an entity of the shard has exactly the edges of that type that start there, in the table's order
+-- the edge of a type and key to a target
+abbrev pub edge_to : ℕ → Key → ℕ → EdgeRef
+edge_to number key target = record { type_no = number; key = key; target = target }
+
+-- whether a type is an index type whose edges lead to a vertical
+abbrev pub leads_to : Declarations → ℕ → ℕ → Bool
+leads_to schema vertical number = option_map_or (λ type_def. is_index type_def.store && type_def.target == vertical) (type_at schema number) false
+
+-- the posting of an entity under a type and key, where the table has the edge to it
+abbrev pub posting_to : Contents → ℕ → Key → DocKey → Option Posting
+posting_to table number key doc = option_map (λ audience. record { key = doc; audience = audience }) (audience_at table (edge_to number key doc.id))
+
+-- each entity of the shard has its rank, and no other id has one; of the index edges into the shard there
+-- are those that the table has; the postings of a term are the entities of the shard to which the table has
+-- the edge, in rank order, each with its audience; and the record of a type and an entity of the shard has
+-- exactly the edges of that type that start there, in the order of their targets
 pub record RowsAreExact : Type 0 where
   pub ranks : (schema : Declarations) (limits : Limits) (table : Contents) (vertical shard id : ℕ) → IsKept schema limits table
       → finite.get (shard_rows schema table vertical shard).entities id ≡ rank_in_shard schema table vertical shard id
+  pub edges : (schema : Declarations) (limits : Limits) (table : Contents) (vertical shard number : ℕ) (key : Key) (target : ℕ) → IsKept schema limits table → leads_to schema vertical number ≡ true → shard_of schema vertical target ≡ shard
+      → has_edge (shard_rows schema table vertical shard) (edge_to number key target) ≡ table_has_edge table (edge_to number key target)
+  pub postings : (schema : Declarations) (limits : Limits) (table : Contents) (vertical shard number : ℕ) (key : Key) → IsKept schema limits table → leads_to schema vertical number ≡ true
+      → term_postings (shard_rows schema table vertical shard) (term_of number key) ≡ filter_map (posting_to table number key) (ranked schema table vertical shard)
   pub records : (schema : Declarations) (table : Contents) (vertical shard number id : ℕ) → is_forward_type schema vertical number ≡ true → shard_of schema vertical id ≡ shard
       → record_at (shard_rows schema table vertical shard) (record_key number id) ≡ map item_of (map held_of (filter (λ e. starts_at number (Id id) e.0) table.edges))
