@@ -1,5 +1,5 @@
 -- What the rows of a shard have, one by one, of a table that keeps what tables keep.
-use Rattle.std.specs.Prelude.{◌≡◌, ◌==◌, ◌&&◌, ℕ, Bool, true, false, if◌then◌else◌, List, Option, Some, None, map, filter}
+use Rattle.std.specs.Prelude.{◌≡◌, ◌==◌, ◌&&◌, ℕ, Bool, true, false, if◌then◌else◌, List, Option, Some, None, map, filter, [], ◌∷◌, ◌++◌, take, drop}
 use Rattle.std.specs.List.{filter_map}
 use Rattle.std.specs.Option.{option_and_then, option_map, option_map_or}
 use Rattle.std.specs.FinMap as finite
@@ -11,7 +11,7 @@ use Rattle.uni_base.specs.declared.entity.Rank.{Rank}
 use Rattle.uni_base.specs.declared.limits.Limits.{Limits}
 use Rattle.uni_schema.specs.Schema.{Declarations, type_at, shard_of, is_index}
 use Rattle.uni_table.specs.declared.command.EntityRow.{EntityRow}
-use Rattle.uni_table.specs.Contents.{Contents, entity_at, audience_at, starts_at, has_edge as table_has_edge}
+use Rattle.uni_table.specs.Contents.{Contents, empty, entity_at, audience_at, starts_at, has_edge as table_has_edge}
 use Rattle.uni_table.specs.Lists.{held_of}
 use Rattle.uni_table.specs.Ranked.{is_of_shard, ranked}
 use Rattle.uni_table.specs.Shards.{is_forward_type}
@@ -19,7 +19,7 @@ use Rattle.uni_table.specs.TableState.{IsKept}
 use Rattle.posting_lists.specs.declared.posting.Posting.{Posting}
 use Rattle.layer_stack.specs.Places.{term_of}
 use Rattle.forward_data.specs.Records.{record_key}
-use Rattle.shard_index.specs.Rows.{has_edge, term_postings, record_at}
+use Rattle.shard_index.specs.Rows.{ShardRows, ShardChanges, no_rows, empty_layer, layer_over, stack_over, stack_rows, has_edge, term_postings, record_at}
 use Rattle.shard_index.specs.Shards.{item_of, shard_rows}
 
 -- the rank of an id, where it is that of an entity of the shard
@@ -51,3 +51,13 @@ pub record RowsAreExact : Type 0 where
       → term_postings (shard_rows schema table vertical shard) (term_of number key) ≡ filter_map (posting_to table number key) (ranked schema table vertical shard)
   pub records : (schema : Declarations) (table : Contents) (vertical shard number id : ℕ) → is_forward_type schema vertical number ≡ true → shard_of schema vertical id ≡ shard
       → record_at (shard_rows schema table vertical shard) (record_key number id) ≡ map item_of (map held_of (filter (λ e. starts_at number (Id id) e.0) table.edges))
+
+-- the empty layer changes nothing; stacks put together stand for what the newer one makes of the older; a
+-- layer above all others lies over what is below; a layer that by itself stands for the first layers may
+-- stand in their place; and the empty table has no rows
+pub record StacksAddUp : Type 0 where
+  pub unchanged : (rows : ShardRows) → layer_over rows empty_layer ≡ rows
+  pub together : (rows : ShardRows) (older newer : List ShardChanges) → stack_over rows (older ++ newer) ≡ stack_over (stack_over rows older) newer
+  pub above : (rows : ShardRows) (layers : List ShardChanges) (layer : ShardChanges) → stack_over rows (layers ++ layer ∷ []) ≡ layer_over (stack_over rows layers) layer
+  pub front : (layers : List ShardChanges) (n : ℕ) (layer : ShardChanges) → layer_over no_rows layer ≡ stack_rows (take n layers) → stack_rows (layer ∷ drop n layers) ≡ stack_rows layers
+  pub start : (schema : Declarations) (vertical shard : ℕ) → shard_rows schema empty vertical shard ≡ no_rows
