@@ -3,7 +3,8 @@ use Rattle.std.proofs.Common.{◌≡◌, ℕ, zero, suc, List, [], ◌∷◌, �
 use Rattle.layer_stack.specs.Postings.{PostingChanges}
 use Rattle.forward_data.specs.Records.{Records}
 use Rattle.shard_index.specs.Entities.{EntityChanges}
-use Rattle.shard_index.specs.Joined.{layer_of, joined, AreAsLong}
+use Rattle.shard_index.specs.Rows.{layer_of}
+use Rattle.shard_index.specs.Joined.{joined, AreAsLong}
 
 later : (e : EntityChanges) (p : PostingChanges) (f : Records) (es : List EntityChanges) (ps : List PostingChanges) (fs : List Records) → AreAsLong (e ∷ es) (p ∷ ps) (f ∷ fs) → AreAsLong es ps fs
 later e p f es ps fs long = record { postings = omega (arith, long.postings); records = omega (arith, long.records) }

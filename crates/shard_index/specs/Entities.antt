@@ -1,5 +1,5 @@
 -- Entities of a shard with their ranks, and what a layer changes of them.
-use Rattle.std.specs.Prelude.{ℕ, ◌+◌, Option, None, cond}
+use Rattle.std.specs.Prelude.{ℕ, ◌+◌, ◌≤◌, ◌^◌, T, List, length, Option, None, cond}
 use Rattle.std.specs.Ordering.{nat_cmp}
 use Rattle.std.specs.FinMap as finite
 use Rattle.uni_base.specs.declared.entity.Rank.{Rank}
@@ -32,6 +32,13 @@ entity_changes deletes puts = record { deletes = deletes; puts = puts }
 -- a layer that puts the entities of a table, and removes none
 abbrev pub putting_entities : EntityTable → EntityChanges
 putting_entities = entity_changes finite.empty
+
+-- the rows of a layer of entities: each part in the order of ids, and not too many to count
+pub record AreEntityRows (removed : List (ℕ × Unit {0})) (ranked : List (ℕ × Rank)) : Type 0 where
+  pub deletes : T (finite.is_sorted nat_cmp removed)
+  pub puts : T (finite.is_sorted nat_cmp ranked)
+  pub few_deletes : length removed ≤ 2 ^ 61
+  pub few_puts : length ranked ≤ 2 ^ 61
 
 -- the number of removals and puts
 abbrev pub entity_entries : EntityChanges → ℕ

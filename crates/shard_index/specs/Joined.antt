@@ -3,11 +3,7 @@ use Rattle.std.specs.Prelude.{◌≡◌, ℕ, List, [], ◌∷◌, length, min}
 use Rattle.layer_stack.specs.Postings.{PostingChanges}
 use Rattle.forward_data.specs.Records.{Records}
 use Rattle.shard_index.specs.Entities.{EntityChanges}
-use Rattle.shard_index.specs.Rows.{ShardChanges}
-
--- a layer of three parts
-abbrev pub layer_of : EntityChanges → PostingChanges → Records → ShardChanges
-layer_of entities postings records = record { entities = entities; postings = postings; records = records }
+use Rattle.shard_index.specs.Rows.{ShardChanges, layer_of}
 
 -- the layers of stacks of the same length, place by place
 abbrev pub joined : List EntityChanges → List PostingChanges → List Records → List ShardChanges

@@ -1,9 +1,9 @@
 -- The rows of a shard, and what a stack of layers stands for.
-use Rattle.std.specs.Prelude.{ℕ, Bool, false, ◌+◌, List, [], ◌∷◌, is_some}
+use Rattle.std.specs.Prelude.{ℕ, Bool, false, ◌+◌, List, [], ◌∷◌, map, take, drop, is_some}
 use Rattle.std.specs.Option.{unwrap_or, option_map_or}
 use Rattle.std.specs.FinMap as finite
 use Rattle.uni_base.specs.declared.edge.EdgeRef.{EdgeRef}
-use Rattle.layer_base.specs.Layers.{layer_over as table_over}
+use Rattle.layer_base.specs.Layers.{layer_over as table_over, stack_table}
 use Rattle.posting_lists.specs.declared.posting.Posting.{Posting}
 use Rattle.layer_stack.specs.declared.place.TermKey.{TermKey}
 use Rattle.layer_stack.specs.Places.{term_of}
@@ -25,6 +25,10 @@ pub record ShardChanges : Type 0 where
   pub entities : EntityChanges
   pub postings : PostingChanges
   pub records : Records
+
+-- a layer of three parts
+abbrev pub layer_of : EntityChanges → PostingChanges → Records → ShardChanges
+layer_of entities postings records = record { entities = entities; postings = postings; records = records }
 
 -- no rows
 abbrev pub no_rows : ShardRows
@@ -50,6 +54,23 @@ stack_over rows (layer ∷ layers) = stack_over (layer_over rows layer) layers
 -- the rows that a stack of layers stands for
 abbrev pub stack_rows : List ShardChanges → ShardRows
 stack_rows = stack_over no_rows
+
+-- the layers of each part
+abbrev pub entity_layers : List ShardChanges → List EntityChanges
+entity_layers layers = map (λ layer. layer.entities) layers
+
+abbrev pub posting_layers : List ShardChanges → List PostingChanges
+posting_layers layers = map (λ layer. layer.postings) layers
+
+abbrev pub record_layers : List ShardChanges → List Records
+record_layers layers = map (λ layer. layer.records) layers
+
+-- the entities that the first layers stand for, and those of a stack whose first layers one replaces
+abbrev pub front_entities : ℕ → List ShardChanges → EntityTable
+front_entities count layers = stack_table (take count (entity_layers layers))
+
+abbrev pub entities_behind : EntityChanges → ℕ → List ShardChanges → EntityTable
+entities_behind front count layers = stack_table (front ∷ drop count (entity_layers layers))
 
 -- the number of entries of a layer: removals and puts of entities and of postings, and records
 abbrev pub entries : ShardChanges → ℕ

@@ -12,10 +12,13 @@ use Rattle.uni_table.specs.Contents.{Contents, starts_at}
 use Rattle.uni_table.specs.Lists.{shard_edges}
 use Rattle.uni_table.specs.Ranked.{ranked, doc_at}
 use Rattle.uni_table.specs.Shards.{is_indexed}
+use Rattle.uni_table.specs.TableState.{TableState}
 use Rattle.layer_base.specs.Layers.{from_log}
+use Rattle.posting_lists.specs.declared.posting.Posting.{Posting}
 use Rattle.layer_stack.specs.declared.place.Place.{Place}
+use Rattle.layer_stack.specs.declared.place.TermKey.{TermKey}
 use Rattle.layer_stack.specs.Places.{term_of}
-use Rattle.layer_stack.specs.Postings.{place_of}
+use Rattle.layer_stack.specs.Postings.{PostingTable, place_of}
 use Rattle.forward_data.specs.declared.record.ForwardItem.{ForwardItem}
 use Rattle.forward_data.specs.declared.record.RecordKey.{RecordKey}
 use Rattle.forward_data.specs.Records.{record_key}
@@ -29,6 +32,10 @@ entity_row doc = (doc.id, doc.rank)
 abbrev pub posting_row : Declarations → Contents → Held → Option (Place × Audience)
 posting_row schema table held =
     if is_indexed schema held then option_map (λ doc. (place_of (term_of held.edge.type_no held.edge.key) doc, held.audience)) (doc_at table held.edge.target) else None
+
+-- a posting under a term, as a row
+abbrev pub row_of : TermKey × Posting → Place × Audience
+row_of p = (place_of p.0 p.1.key, p.1.audience)
 
 -- an edge in the record that it starts from
 abbrev pub item_of : Held → ForwardItem
@@ -56,3 +63,11 @@ shard_rows schema table vertical shard =
       postings = from_log (filter_map (posting_row schema table) held);
       records = from_log (filter_map (record_row schema held) held);
     }
+
+-- the same of a table with its schema
+abbrev pub table_rows : TableState → ℕ → ℕ → ShardRows
+table_rows table vertical shard = shard_rows table.schema table.contents vertical shard
+
+-- the postings of the index edges among some edges of a table
+abbrev pub table_postings : TableState → List Held → PostingTable
+table_postings table held = from_log (filter_map (posting_row table.schema table.contents) held)

@@ -1,12 +1,11 @@
 ghost use Rattle.std.specs.Prelude.{◌≡◌, ◌<◌, length, map, IfOk};
-ghost use Rattle.std.specs.List.{filter_map};
 ghost use Rattle.std.specs.Option.{option_map};
 ghost use Rattle.layer_base.specs.Layers.{from_log};
-ghost use Rattle.layer_stack.specs.Postings.{place_of, putting_all};
+ghost use Rattle.layer_stack.specs.Postings.{putting_all};
 ghost use Rattle.uni_table.specs.Shards.{is_indexed, AreDeclared};
 ghost use Rattle.shard_index.specs.Entities.{putting_entities};
 ghost use Rattle.shard_index.specs.Rows.{no_rows, layer_over, stack_rows};
-ghost use Rattle.shard_index.specs.Shards.{entity_row, posting_row, shard_rows};
+ghost use Rattle.shard_index.specs.Shards.{entity_row, row_of, posting_row, table_rows, table_postings};
 
 use crate::records::record_layer;
 use crate::{EntityDelta, EntityLayer, ShardIndex, ShardLayer};
@@ -28,7 +27,7 @@ impl ShardIndex {
     ) -> Result<ShardIndex, AllocError>
         requires { vertical < length table.now.schema.verticals }
         ensures layers { IfOk result (λ index. length index.0 ≡ 1) }
-        ensures rows { IfOk result (λ index. stack_rows index.0 ≡ shard_rows table.now.schema table.now.contents vertical shard) }
+        ensures rows { IfOk result (λ index. stack_rows index.0 ≡ table_rows table.now vertical shard) }
     {
         let base = ShardLayer::base(alloc, table, vertical, shard)?;
         ShardIndex::of(alloc, base)
@@ -45,7 +44,7 @@ impl ShardLayer {
         shard: u32,
     ) -> Result<ShardLayer, AllocError>
         requires { vertical < length table.now.schema.verticals }
-        ensures { IfOk result (λ layer. layer_over no_rows layer ≡ shard_rows table.now.schema table.now.contents vertical shard) }
+        ensures { IfOk result (λ layer. layer_over no_rows layer ≡ table_rows table.now vertical shard) }
     {
         let docs = table.ranked(vertical, shard)?;
         let held = table.shard_edges(vertical, shard)?;
@@ -74,7 +73,7 @@ fn entity_layer(alloc: Global, docs: &[DocKey]) -> Result<EntityLayer, AllocErro
 // The layer that puts the postings of the index edges among some edges.
 fn posting_layer(alloc: Global, table: &Table, held: &[Held]) -> Result<Layer, AllocError>
     requires { AreDeclared table.now.schema held.now }
-    ensures { IfOk result (λ layer. layer ≡ putting_all (from_log (filter_map (posting_row table.now.schema table.now.contents) held.now))) }
+    ensures { IfOk result (λ layer. layer ≡ putting_all (table_postings table.now held.now)) }
 {
     let mut delta = Delta::new(alloc);
     for edge in held {
@@ -89,7 +88,7 @@ fn posting_layer(alloc: Global, table: &Table, held: &[Held]) -> Result<Layer, A
 // target is no entity.
 fn posting_of(table: &Table, held: &Held) -> Option<(TermKey, Posting)>
     requires { held.now.edge.type_no < length table.now.schema.types }
-    ensures { option_map (λ p. (place_of p.0 p.1.key, p.1.audience)) result ≡ posting_row table.now.schema table.now.contents held.now }
+    ensures { option_map row_of result ≡ posting_row table.now.schema table.now.contents held.now }
 {
     if !is_indexed(table.schema(), held) {
         return None;

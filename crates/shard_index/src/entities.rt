@@ -26,15 +26,15 @@ impl Model for EntityLayer {
     ghost use Rattle.std.specs.Coded.{codes};
     ghost use Rattle.std.specs.FinMap as finite;
     ghost use Rattle.std.specs.Ordering.{nat_cmp};
-    ghost use Rattle.shard_index.specs.Entities.{EntityChanges};
+    ghost use Rattle.shard_index.specs.Entities.{EntityChanges, entity_changes, AreEntityRows};
 
     ghost Value = { EntityChanges };
 
     ghost coded = { Prim.hlevel (codes, finite.code) };
 
-    ghost view = { λ l. record { deletes = finite.from_sorted l.deletes.items; puts = finite.from_sorted l.puts.items } };
+    ghost view = { λ l. entity_changes (finite.from_sorted l.deletes.items) (finite.from_sorted l.puts.items) };
 
-    ghost invariant = { λ l. T (finite.is_sorted nat_cmp l.deletes.items) × T (finite.is_sorted nat_cmp l.puts.items) × (length l.deletes.items ≤ 2 ^ 61) × (length l.puts.items ≤ 2 ^ 61) };
+    ghost invariant = { λ l. AreEntityRows l.deletes.items l.puts.items };
 }
 
 impl EntityLayer {

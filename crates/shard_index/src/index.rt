@@ -6,6 +6,7 @@ ghost use Rattle.layer_base.specs.Layers.{stack_table};
 ghost use Rattle.forward_data.specs.Records.{record_key};
 ghost use Rattle.shard_index.specs.Entities.{putting_entities};
 ghost use Rattle.shard_index.specs.Rows.{stack_rows, entries, term_postings, record_at, has_edge};
+ghost use Rattle.shard_index.specs.Rows.{front_entities, entities_behind, posting_layers, record_layers};
 
 use crate::merge::merge_front;
 use crate::ranks::rank_in;
@@ -122,14 +123,14 @@ impl ShardIndex {
 
     /// Its stack of postings.
     pub fn postings(&self) -> &Stack
-        ensures { result.now.0 ≡ map (λ l. l.postings) self.now.0 }
+        ensures { result.now.0 ≡ posting_layers self.now.0 }
     {
         &self.postings
     }
 
     /// Its stack of forward records.
     pub fn forward_stack(&self) -> &ForwardStack
-        ensures { result.now.0 ≡ map (λ l. l.records) self.now.0 }
+        ensures { result.now.0 ≡ record_layers self.now.0 }
     {
         &self.forward
     }
@@ -182,9 +183,9 @@ impl ShardIndex {
     /// The entities of the first `count` layers, the oldest ones, as one layer that removes none.
     pub fn merge_entities(&self, alloc: Global, count: usize) -> Result<EntityLayer, AllocError>
         requires { count ≤ length self.now.0 }
-        ensures merged { IfOk result (λ layer. layer ≡ putting_entities (stack_table (take count (map (λ l. l.entities) self.now.0)))) }
+        ensures merged { IfOk result (λ layer. layer ≡ putting_entities (front_entities count self.now.0)) }
         ensures removals { IfOk result (λ layer. layer.deletes ≡ finite.empty) }
-        ensures same { IfOk result (λ layer. stack_table (layer ∷ drop count (map (λ l. l.entities) self.now.0)) ≡ (stack_rows self.now.0).entities) }
+        ensures same { IfOk result (λ layer. entities_behind layer count self.now.0 ≡ (stack_rows self.now.0).entities) }
     {
         merge_front(alloc, &self.entities, count)
     }

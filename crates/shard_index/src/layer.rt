@@ -1,5 +1,5 @@
 ghost use Rattle.std.specs.Prelude.{◌≡◌, IfOk};
-ghost use Rattle.shard_index.specs.Rows.{empty_layer, entries};
+ghost use Rattle.shard_index.specs.Rows.{layer_of, empty_layer, entries};
 
 use crate::{EntityDelta, EntityLayer};
 use forward_data::{ForwardDelta, ForwardLayer};
@@ -20,13 +20,13 @@ pub struct ShardLayer {
 impl Model for ShardLayer {
     ghost use Rattle.std.specs.Coded.{codes};
     ghost use Rattle.std.specs.FinMap as finite;
-    ghost use Rattle.shard_index.specs.Rows.{ShardChanges};
+    ghost use Rattle.shard_index.specs.Rows.{ShardChanges, layer_of};
 
     ghost Value = { ShardChanges };
 
     ghost coded = { Prim.hlevel (codes, finite.code) };
 
-    ghost view = { λ l. record { entities = l.entities.value; postings = l.postings.value; records = l.forward.value } };
+    ghost view = { λ l. layer_of l.entities.value l.postings.value l.forward.value };
 }
 
 impl ShardLayer {
@@ -36,7 +36,7 @@ impl ShardLayer {
         postings: Arc<Layer>,
         forward: Arc<ForwardLayer>,
     ) -> ShardLayer
-        ensures { result ≡ record { entities = entities.value; postings = postings.value; records = forward.value } }
+        ensures { result ≡ layer_of entities.value postings.value forward.value }
     {
         ShardLayer {
             entities,

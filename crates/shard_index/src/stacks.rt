@@ -1,7 +1,6 @@
-ghost use Rattle.std.specs.Prelude.{◌≡◌, ◌<◌, ◌++◌, ◌∷◌, [], length, map, replicate, IfOk, OnOk};
+ghost use Rattle.std.specs.Prelude.{◌≡◌, ◌<◌, ◌++◌, length, IfOk, OnOk};
 ghost use Rattle.shard_index.specs.Places.{places_in, stack_places};
-ghost use Rattle.shard_index.specs.Rows.{stack_rows};
-ghost use Rattle.shard_index.specs.Versions.{layers_of, rows_at};
+ghost use Rattle.shard_index.specs.Versions.{layers_of, stacks_on, rows_of, rows_at_all};
 
 use crate::{ShardIndex, ShardLayer};
 use std::alloc::{AllocError, Global};
@@ -14,7 +13,7 @@ pub(crate) fn add_stacks(
     count: usize,
     stacks: &mut Vec<ShardIndex>,
 ) -> Result<(), AllocError>
-    ensures { OnOk result (layers_of stacks.new.items ≡ layers_of stacks.old.items ++ replicate count (base.now ∷ [])) }
+    ensures { OnOk result (layers_of stacks.new.items ≡ layers_of stacks.old.items ++ stacks_on count base.now) }
 {
     for _ in 0..count {
         let stack = ShardIndex::of(alloc, base.share()?)?;
@@ -25,7 +24,7 @@ pub(crate) fn add_stacks(
 
 // The stacks of all shards of a table, each of one layer.
 pub(crate) fn table_stacks(alloc: Global, table: &Table) -> Result<Vec<ShardIndex>, AllocError>
-    ensures { IfOk result (λ stacks. map stack_rows (layers_of stacks.items) ≡ map (rows_at table.now.schema table.now.contents) (stack_places table.now.schema)) }
+    ensures { IfOk result (λ stacks. rows_of stacks.items ≡ rows_at_all table.now (stack_places table.now.schema)) }
 {
     let mut stacks = Vec::new(alloc);
     for vertical in 0..table.schema().verticals() {
@@ -42,7 +41,7 @@ fn add_vertical(
     stacks: &mut Vec<ShardIndex>,
 ) -> Result<(), AllocError>
     requires { vertical < length table.now.schema.verticals }
-    ensures { OnOk result (map stack_rows (layers_of stacks.new.items) ≡ map stack_rows (layers_of stacks.old.items) ++ map (rows_at table.now.schema table.now.contents) (places_in table.now.schema vertical)) }
+    ensures { OnOk result (rows_of stacks.new.items ≡ rows_of stacks.old.items ++ rows_at_all table.now (places_in table.now.schema vertical)) }
 {
     let declared = *table.schema().vertical(vertical);
     for shard in 0..declared.shards {

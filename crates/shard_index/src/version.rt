@@ -1,10 +1,8 @@
-ghost use Rattle.std.specs.Prelude.{◌≡◌, ◌<◌, ◌≤◌, ◌++◌, ◌∷◌, [], Some, length, map, replicate, slice_get, IfOk, OnOk};
+ghost use Rattle.std.specs.Prelude.{◌≡◌, Some, slice_get, IfOk};
 ghost use Rattle.std.specs.Arc.{arc_value};
-ghost use Rattle.uni_table.specs.Contents.{Contents, empty};
-ghost use Rattle.shard_index.specs.Places.{IsStack, stack_no, stack_count};
-ghost use Rattle.shard_index.specs.Rows.{empty_layer, stack_rows};
-ghost use Rattle.shard_index.specs.Shards.{shard_rows};
-ghost use Rattle.shard_index.specs.Versions.{AreStacks, Stands, layers_of};
+ghost use Rattle.uni_table.specs.Contents.{empty};
+ghost use Rattle.shard_index.specs.Places.{IsStack, stack_no};
+ghost use Rattle.shard_index.specs.Versions.{AreStacks, Stands, StandsAt, first_version, version_of, layers_of};
 
 use crate::places::{stack_count, stack_no};
 use crate::stacks::{add_stacks, table_stacks};
@@ -42,7 +40,7 @@ impl Model for Version {
 impl Version {
     /// The version without publishes: each stack is one empty layer.
     pub fn empty(alloc: Global, schema: Arc<Schema>) -> Result<Version, AllocError>
-        ensures is { IfOk result (λ version. version ≡ record { schema = arc_value schema; publishes = 0; stacks = replicate (stack_count (arc_value schema)) (empty_layer ∷ []) }) }
+        ensures is { IfOk result (λ version. version ≡ first_version (arc_value schema)) }
         ensures stands { IfOk result (λ version. Stands version empty) }
     {
         let base = ShardLayer::empty(alloc)?;
@@ -79,7 +77,7 @@ impl Version {
         stacks: Vec<ShardIndex>,
     ) -> Result<Version, AllocError>
         requires { AreStacks self.now.schema (layers_of stacks.items) }
-        ensures { IfOk result (λ version. version ≡ record { schema = self.now.schema; publishes = publishes; stacks = layers_of stacks.items }) }
+        ensures { IfOk result (λ version. version ≡ version_of self.now.schema publishes stacks.items) }
     {
         let schema = self.schema.clone()?;
         Ok(Version {
@@ -114,7 +112,7 @@ impl Version {
     pub fn shard(&self, vertical: u16, shard: u32, replica: u32) -> &ShardIndex
         requires { IsStack self.now.schema vertical shard replica }
         ensures at { slice_get self.now.stacks (stack_no self.now.schema vertical shard replica) ≡ Some result.now.0 }
-        ensures rows { (table : Contents) → Stands self.now table → stack_rows result.now.0 ≡ shard_rows self.now.schema table vertical shard }
+        ensures rows { StandsAt self.now result.now.0 vertical shard }
     {
         &self.stacks[stack_no(&self.schema, vertical, shard, replica)]
     }

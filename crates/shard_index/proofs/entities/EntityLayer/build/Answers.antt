@@ -13,12 +13,13 @@ invariant_of-result c =
     let deletes : c.in_ok-deletes.deletes.items ≡ finite.entries (from_log {R = nat_cmp} c.delta.inside.deletes.items) = search rules in
     let puts : c.in_ok-puts.puts.items ≡ finite.entries (from_log {R = nat_cmp} c.delta.inside.puts.items) = search rules in
     let few_deletes : length c.in_ok-deletes.deletes.items ≤ 2 ^ 61 = omega (arith, c.in_ok-deletes.ensures.few, c.delta.invariant) in
-    let few_puts : length c.in_ok-puts.puts.items ≤ 2 ^ 61 = omega (arith, c.in_ok-puts.ensures.few, c.delta.invariant) in (
-      subst (λ rs. T (is_sorted nat_cmp rs)) (sym deletes) (finite.entries_sorted (from_log {R = nat_cmp} c.delta.inside.deletes.items)),
-      subst (λ rs. T (is_sorted nat_cmp rs)) (sym puts) (finite.entries_sorted (from_log {R = nat_cmp} c.delta.inside.puts.items)),
-      few_deletes,
-      few_puts,
-    )
+    let few_puts : length c.in_ok-puts.puts.items ≤ 2 ^ 61 = omega (arith, c.in_ok-puts.ensures.few, c.delta.invariant) in
+    record {
+      deletes = subst (λ rs. T (is_sorted nat_cmp rs)) (sym deletes) (finite.entries_sorted (from_log {R = nat_cmp} c.delta.inside.deletes.items));
+      puts = subst (λ rs. T (is_sorted nat_cmp rs)) (sym puts) (finite.entries_sorted (from_log {R = nat_cmp} c.delta.inside.puts.items));
+      few_deletes = few_deletes;
+      few_puts = few_puts;
+    }
 
 pub returns : goal.returns
 returns c =

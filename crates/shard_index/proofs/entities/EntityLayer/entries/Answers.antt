@@ -6,8 +6,8 @@ use Rattle.shard_index.proofs.entities.EntityLayer.entries.Goals as goal
 pub returns : goal.returns
 returns c =
     let l = c.self.inside in
-    let deletes = len-from_sorted l.deletes.items c.self.invariant.0 in
-    let puts = len-from_sorted l.puts.items c.self.invariant.1 in
+    let deletes = len-from_sorted l.deletes.items c.self.invariant.deletes in
+    let puts = len-from_sorted l.puts.items c.self.invariant.puts in
     let first : c.len.result ≡ length l.deletes.items = search rules in
     let second : c.len-2.result ≡ length l.puts.items = search rules in
     omega (arith, deletes, puts, first, second, ap entity_entries c.self.view_is)

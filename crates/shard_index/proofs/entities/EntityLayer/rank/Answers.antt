@@ -7,4 +7,4 @@ use Rattle.shard_index.proofs.entities.EntityLayer.rank.Goals as goal
 pub returns : goal.returns
 returns c =
     let read : c.copied.result ≡ find nat_cmp c.args.id c.deref.result.now = search rules in
-    read ∙ ap (find nat_cmp c.args.id) c.deref.ensures.value ∙ sym (finite.get-from_sorted nat_cmp c.self.inside.puts.items c.args.id c.self.invariant.1) ∙ ap (λ l. finite.get l.puts c.args.id) c.self.view_is
+    read ∙ ap (find nat_cmp c.args.id) c.deref.ensures.value ∙ sym (finite.get-from_sorted nat_cmp c.self.inside.puts.items c.args.id c.self.invariant.puts) ∙ ap (λ l. finite.get l.puts c.args.id) c.self.view_is

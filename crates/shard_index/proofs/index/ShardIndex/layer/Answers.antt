@@ -1,5 +1,5 @@
 use Rattle.std.proofs.Common.{rules, arith, ◌≡◌, Some, ap, ◌∙◌, sym, slice_get}
-use Rattle.shard_index.specs.Joined.{layer_of}
+use Rattle.shard_index.specs.Rows.{layer_of}
 use Rattle.shard_index.proofs.IndexParts.{parts_of}
 use Rattle.shard_index.proofs.JoinedLayers.{slice_get-joined}
 use Rattle.shard_index.proofs.index.ShardIndex.layer.Goals as goal

@@ -1,7 +1,7 @@
 use Rattle.std.proofs.Common.{rules, arith, ◌≡◌, ◌+◌, Some, ap, ◌∙◌, sym, slice_get}
 use Rattle.std.specs.Option.{option_map}
 use Rattle.shard_index.specs.Rows.{entries}
-use Rattle.shard_index.specs.Joined.{layer_of}
+use Rattle.shard_index.specs.Rows.{layer_of}
 use Rattle.shard_index.proofs.IndexParts.{parts_of}
 use Rattle.shard_index.proofs.JoinedLayers.{slice_get-joined}
 use Rattle.shard_index.proofs.index.ShardIndex.layer_entries.Goals as goal
