@@ -1,6 +1,5 @@
 -- None of the records of edges is empty.
-use Rattle.std.proofs.Common.{◌≡◌, Bool, true, false, cond, List, [], ◌∷◌, ◌++◌, map, filter, reverse, Option, None, Some, refl, sym, ◌∙◌, ap, subst}
-use Rattle.std.proofs.lemmas.List.{reverse-append}
+use Rattle.std.proofs.Common.{◌≡◌, Bool, true, false, cond, List, [], ◌∷◌, map, filter, reverse, Option, None, Some, refl, sym, ◌∙◌, ap}
 use Rattle.std.specs.FinMap as finite
 use Rattle.std.specs.List.{filter_map, cons_option, AllByRecursion}
 use Rattle.std.specs.Ordering.{eq_by_cmp}
@@ -15,21 +14,14 @@ use Rattle.forward_data.specs.Records.{record_cmp, AreFull}
 use Rattle.forward_data.proofs.Order.{record_total}
 use Rattle.shard_index.specs.Begun.{starts_as}
 use Rattle.shard_index.specs.Shards.{item_of, items_from, record_of_edge, record_row}
+use Rattle.shard_index.proofs.LoggedMaps.{all-reverse}
 use Rattle.shard_index.proofs.RecordRows.{keyed, records_in}
-use Rattle.shard_index.proofs.RecordRuns.{starts_itself}
+use Rattle.shard_index.proofs.Squeezed.{starts_itself}
 
 abbrev pub IsFullRow : RecordKey × List ForwardItem → Type 0
 IsFullRow row = row.1 ≡ [] → ⊥
 
--- ---- rows, in the other order
-
-all-append : (xs ys : List (RecordKey × List ForwardItem)) → AllByRecursion IsFullRow xs → AllByRecursion IsFullRow ys → AllByRecursion IsFullRow (xs ++ ys)
-all-append [] ys one other = other
-all-append (x ∷ xs) ys one other = (one.0, all-append xs ys one.1 other)
-
-all-reverse : (xs : List (RecordKey × List ForwardItem)) → AllByRecursion IsFullRow xs → AllByRecursion IsFullRow (reverse xs)
-all-reverse [] all = tt
-all-reverse (x ∷ xs) all = subst (AllByRecursion IsFullRow) (sym (reverse-append (x ∷ []) xs)) (all-append (reverse xs) (x ∷ []) (all-reverse xs all.1) (all.0, tt))
+-- ---- the map of rows
 
 full_entries : (es : List (RecordKey × List ForwardItem)) → AllByRecursion IsFullRow es → AreFull (finite.from_entries {R = record_cmp} es)
 full_entries [] all q e = let missing = finite.get-empty {X = List ForwardItem} record_cmp q in absurd cc
@@ -82,4 +74,4 @@ module _ (schema : Declarations) (all : List Held) where
       by (Some key) is later holds = (row_full h key is holds, later)
 
   pub records_full : AreFull (records_in schema all all)
-  records_full = full_entries (reverse (filter_map (record_row schema all) all)) (all-reverse (filter_map (record_row schema all) all) (rows_full all (each_holds all)))
+  records_full = full_entries (reverse (filter_map (record_row schema all) all)) (all-reverse IsFullRow (filter_map (record_row schema all) all) (rows_full all (each_holds all)))

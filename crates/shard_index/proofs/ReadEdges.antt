@@ -10,13 +10,11 @@ use Rattle.uni_base.specs.declared.edge.Audience.{Audience}
 use Rattle.uni_base.specs.declared.edge.EdgeRef.{EdgeRef}
 use Rattle.uni_base.specs.declared.edge.Key.{Key}
 use Rattle.uni_base.specs.declared.entity.DocKey.{DocKey}
-use Rattle.uni_base.specs.declared.entity.Rank.{Rank}
 use Rattle.uni_base.specs.declared.limits.Limits.{Limits}
 use Rattle.uni_base.specs.EdgeOrder.{edge_cmp}
-use Rattle.uni_base.specs.RankOrder.{doc_cmp}
 use Rattle.uni_base.proofs.RankedLemmas.{doc_total}
 use Rattle.uni_schema.specs.declared.schema.TypeDef.{TypeDef}
-use Rattle.uni_schema.specs.Schema.{Declarations, type_at, shard_of}
+use Rattle.uni_schema.specs.Schema.{Declarations, shard_of}
 use Rattle.uni_table.specs.declared.command.EdgeRow.{EdgeRow}
 use Rattle.uni_table.specs.declared.command.EntityRow.{EntityRow}
 use Rattle.uni_table.specs.Contents.{Contents, entity_at, edge_at, audience_at, is_in, target_stands, has_edge as table_has_edge}
@@ -26,12 +24,13 @@ use Rattle.uni_table.specs.TableState.{IsKept}
 use Rattle.uni_table.proofs.Listed.{none_in_nil, first_or_later}
 use Rattle.layer_stack.specs.Places.{term_of}
 use Rattle.layer_stack.specs.Postings.{place_of}
-use Rattle.shard_index.specs.Laws.{edge_to, leads_to, rank_in_shard}
-use Rattle.shard_index.specs.Rows.{ShardRows, has_edge}
+use Rattle.shard_index.specs.Laws.{edge_to, leads_to}
+use Rattle.shard_index.specs.Rows.{has_edge}
 use Rattle.shard_index.specs.Shards.{shard_rows}
 use Rattle.shard_index.proofs.LoggedMaps.{equal_of}
-use Rattle.shard_index.proofs.ReadPostings.{Leading, leading, answer, posted, postings_read}
-use Rattle.shard_index.proofs.ReadRanks.{ranks_read, same_number, number_itself}
+use Rattle.shard_index.proofs.ReadPostings.{leading, posted, postings_read}
+use Rattle.shard_index.proofs.ReadRanks.{ranks_read, same_number}
+use Rattle.shard_index.proofs.Squeezed.{number_itself}
 
 -- what holds of all items holds of one
 one_of_all : {X : Type 0} (p : X → Bool) (xs : List X) (x : X) → Contains xs x → list_all p xs ≡ true → p x ≡ true

@@ -1,13 +1,13 @@
 -- The postings that the rows of a shard have are the index edges that lead into it.
-use Rattle.std.proofs.Common.{◌≡◌, ◌==◌, ◌&&◌, ◌||◌, ◌⊎◌, inl, inr, ℕ, Bool, true, false, cond, if◌then◌else◌, List, [], ◌∷◌, map, filter, Option, None, Some, refl, sym, ◌∙◌, ap, subst, is_some}
+use Rattle.std.proofs.Common.{◌≡◌, ◌==◌, ◌&&◌, ◌||◌, ◌⊎◌, inl, inr, ℕ, Bool, true, false, cond, if◌then◌else◌, List, [], ◌∷◌, map, filter, Option, None, Some, refl, sym, ◌∙◌, ap}
 use Rattle.std.proofs.lemmas.List.Elements.{All-contains_itself, All-weaker, recursion_from_All}
 use Rattle.std.proofs.lemmas.Map.Keys.{IsDistinct-from_sorted}
 use Rattle.std.proofs.lemmas.Map.Views.{Contains-from_lookup, lookup-from_Contains}
 use Rattle.std.specs.Cmp.{eq_by_cmp_equiv, tied_itself}
 use Rattle.std.specs.FinMap as finite
-use Rattle.std.specs.List.{AllByRecursion, Contains, filter_map, cons_option, list_any, list_all}
+use Rattle.std.specs.List.{AllByRecursion, Contains, filter_map, cons_option, list_any}
 use Rattle.std.specs.Map.{keys_of}
-use Rattle.std.specs.Option.{option_map, option_map_or, option_and_then, unwrap_or}
+use Rattle.std.specs.Option.{option_map, option_map_or, option_and_then}
 use Rattle.std.specs.Ordering.{eq_by_cmp, is_eq}
 use Rattle.uni_base.specs.declared.edge.Audience.{Audience}
 use Rattle.uni_base.specs.declared.edge.EdgeRef.{EdgeRef}
@@ -29,21 +29,16 @@ use Rattle.uni_table.specs.Ranked.{doc_at}
 use Rattle.uni_table.specs.Shards.{is_indexed}
 use Rattle.uni_table.specs.TableState.{IsKept}
 use Rattle.uni_table.proofs.Listed.{none_in_nil, first_or_later}
-use Rattle.layer_base.specs.Layers.{from_log}
 use Rattle.layer_stack.specs.declared.place.Place.{Place}
 use Rattle.layer_stack.specs.Places.{term_of, place_cmp}
 use Rattle.layer_stack.specs.Postings.{place_of}
 use Rattle.layer_stack.proofs.Order.{place_total, place_apart}
 use Rattle.shard_index.specs.Laws.{edge_to, leads_to}
 use Rattle.shard_index.specs.Shards.{posting_row, shard_rows}
+use Rattle.shard_index.proofs.Among.{or_true}
 use Rattle.shard_index.proofs.LoggedMaps.{equal_of, Agree, stands_there, logged_is}
-use Rattle.shard_index.proofs.ReadRanks.{same_number}
 
 -- ---- what is made of edges that are kept
-
-or_true : (a : Bool) → (a || true) ≡ true
-or_true true = refl
-or_true false = refl
 
 any_made : {X Y Z : Type 0} (p : X → Bool) (f : X → Y) (g : Y → Option Z) (test : Z → Bool) (xs : List X) (x : X) (z : Z) → Contains xs x → p x ≡ true → g (f x) ≡ Some z → test z ≡ true
     → list_any test (filter_map g (map f (filter p xs))) ≡ true

@@ -22,12 +22,10 @@ use Rattle.shard_index.specs.Laws.{rank_in_shard}
 use Rattle.shard_index.specs.Shards.{entity_row, shard_rows}
 use Rattle.shard_index.proofs.Among.{any_left, any-map}
 use Rattle.shard_index.proofs.LoggedMaps.{equal_of, Agree, stands_there, logged_is}
+use Rattle.shard_index.proofs.Squeezed.{number_itself}
 
 pub same_number : (a b : ℕ) → (a == b) ≡ true → a ≡ b
 same_number a b e = grind (arith, nat_tests)
-
-pub number_itself : (n : ℕ) → (n == n) ≡ true
-number_itself n = grind (arith, nat_tests)
 
 and_true : (a b : Bool) → a ≡ true → b ≡ true → (a && b) ≡ true
 and_true true b s t = t

@@ -1,21 +1,20 @@
 -- The records that the rows of a shard have are the forward edges of its entities.
-use Rattle.std.proofs.Common.{◌≡◌, ◌==◌, ◌&&◌, ◌||◌, ℕ, Bool, true, false, cond, not, if◌then◌else◌, List, [], ◌∷◌, map, filter, Option, None, Some, refl, sym, ◌∙◌, ap, subst, arith}
+use Rattle.std.proofs.Common.{◌≡◌, ◌==◌, ◌&&◌, ◌||◌, ℕ, Bool, true, false, cond, not, if◌then◌else◌, List, [], ◌∷◌, map, filter, Option, None, Some, refl, sym, ◌∙◌, ap}
 use Rattle.std.specs.Cmp.{tied_itself}
 use Rattle.std.specs.FinMap as finite
-use Rattle.std.specs.List.{AllByRecursion, filter_map, cons_option, list_any}
+use Rattle.std.specs.List.{AllByRecursion, filter_map, cons_option}
 use Rattle.std.specs.Option.{option_map, option_map_or, unwrap_or}
 use Rattle.std.specs.Ordering.{eq_by_cmp, is_eq}
 use Rattle.uni_base.specs.declared.edge.Audience.TheVariants.{Only}
 use Rattle.uni_base.specs.declared.edge.EdgeRef.{EdgeRef}
 use Rattle.uni_base.specs.declared.edge.Held.{Held}
-use Rattle.uni_base.specs.declared.edge.Key.{Key}
-use Rattle.uni_base.specs.declared.edge.Key.TheVariants.{Id, Word}
+use Rattle.uni_base.specs.declared.edge.Key.TheVariants.{Id}
 use Rattle.uni_schema.specs.declared.schema.TypeDef.{TypeDef}
 use Rattle.uni_schema.specs.Schema.{Declarations, type_at, shard_of, source_of, is_index}
 use Rattle.uni_table.specs.declared.command.EdgeRow.{EdgeRow}
 use Rattle.uni_table.specs.Contents.{Contents, starts_at}
 use Rattle.uni_table.specs.Lists.{held_of, starts_in, keeps_target, keeps_source, is_kept_by, is_kept_in, shard_edges}
-use Rattle.uni_table.specs.Shards.{is_indexed, is_forward_type}
+use Rattle.uni_table.specs.Shards.{is_forward_type}
 use Rattle.layer_base.specs.Layers.{from_log}
 use Rattle.forward_data.specs.declared.record.ForwardItem.{ForwardItem}
 use Rattle.forward_data.specs.declared.record.RecordKey.{RecordKey}
@@ -25,8 +24,7 @@ use Rattle.shard_index.specs.Rows.{record_at}
 use Rattle.shard_index.specs.Shards.{item_of, items_from, record_of_edge, record_row, shard_rows}
 use Rattle.shard_index.proofs.FullRows.{IsFullRow, rows_full, each_holds}
 use Rattle.shard_index.proofs.LoggedMaps.{equal_of, Agree, stands_there, logged_is}
-use Rattle.shard_index.proofs.ReadRanks.{number_itself}
-use Rattle.shard_index.proofs.Squeezed.{Alike, alike_from}
+use Rattle.shard_index.proofs.Squeezed.{Alike, alike_from, number_itself}
 
 module _ (schema : Declarations) (all : List Held) (key : RecordKey) where
   abbrev answer : Option (List ForwardItem)

@@ -4,26 +4,24 @@ use Rattle.std.proofs.lemmas.List.Elements.{All-from_recursion}
 use Rattle.std.proofs.lemmas.List.Kept.{IsStrictlySortedBy-filter}
 use Rattle.std.proofs.lemmas.Map.Keys.{sorted_head, sorted_tail}
 use Rattle.std.specs.Cmp.{tied_itself}
-use Rattle.std.specs.declared.cmp.Ordering.{Ordering}
 use Rattle.std.specs.declared.cmp.Ordering.TheVariants.{Less}
 use Rattle.std.specs.FinMap as finite
 use Rattle.std.specs.FinMap.Entries.{find}
-use Rattle.std.specs.List.{All, AllByRecursion, Contains, filter_map, cons_option, list_any}
+use Rattle.std.specs.List.{AllByRecursion, Contains, filter_map, cons_option, list_any}
 use Rattle.std.specs.List.Sorted.{IsStrictlySortedBy}
-use Rattle.std.specs.Option.{option_map, option_map_or, option_and_then}
+use Rattle.std.specs.Option.{option_map, option_and_then}
 use Rattle.std.specs.Ordering.{eq_by_cmp, is_eq}
 use Rattle.uni_base.specs.declared.edge.Audience.{Audience}
 use Rattle.uni_base.specs.declared.edge.Key.{Key}
 use Rattle.uni_base.specs.declared.entity.DocKey.{DocKey}
 use Rattle.uni_base.specs.declared.limits.Limits.{Limits}
 use Rattle.uni_base.specs.Cursors.{is_before, is_less, IsRanked}
-use Rattle.uni_base.specs.KeySets.{has_key}
 use Rattle.uni_base.specs.RankOrder.{doc_cmp}
 use Rattle.uni_base.proofs.RankedLemmas.{doc_total, exact_key}
 use Rattle.uni_schema.specs.Schema.{Declarations, shard_of}
 use Rattle.uni_table.specs.declared.command.EntityRow.{EntityRow}
 use Rattle.uni_table.specs.Contents.{Contents, entity_at, audience_at}
-use Rattle.uni_table.specs.Ranked.{ranked, ranked_all, doc_at}
+use Rattle.uni_table.specs.Ranked.{ranked, ranked_all}
 use Rattle.uni_table.specs.TableState.{IsKept}
 use Rattle.uni_table.proofs.Exact.{ranked_is_exact}
 use Rattle.uni_table.proofs.Listed.{none_in_nil, first_or_later, first_is, later_is}
@@ -31,13 +29,14 @@ use Rattle.uni_table.proofs.Sharded.{shards_part}
 use Rattle.posting_lists.specs.declared.posting.Posting.{Posting}
 use Rattle.posting_lists.specs.Postings.{keys_of}
 use Rattle.layer_base.specs.Lookups.{either}
-use Rattle.layer_stack.specs.Places.{term_of, place_cmp}
-use Rattle.layer_stack.specs.Postings.{PostingTable, place_of, postings_of}
-use Rattle.layer_stack.specs.Stacks.{PartValue, entry_of, part_table}
+use Rattle.layer_stack.specs.Places.{term_of}
+use Rattle.layer_stack.specs.Postings.{place_of}
+use Rattle.layer_stack.specs.Stacks.{entry_of, part_table}
 use Rattle.layer_stack.proofs.Terms.{parts_stand, one_part, part_pushed}
 use Rattle.shard_index.specs.Laws.{edge_to, leads_to, posting_to}
 use Rattle.shard_index.specs.Rows.{term_postings}
 use Rattle.shard_index.specs.Shards.{shard_rows}
+use Rattle.shard_index.proofs.Among.{or_true}
 use Rattle.shard_index.proofs.LoggedMaps.{equal_of, Agree, stands_there, found}
 use Rattle.shard_index.proofs.ReadEdges.{target_vertical}
 use Rattle.shard_index.proofs.ReadPostings.{answer, posted, postings_read}
@@ -63,10 +62,6 @@ keys_left table number key (k ∷ ks) = by (audience_at table (edge_to number ke
     by (Some audience) rest = ap (λ xs. k ∷ xs) rest
 
 -- ---- an entity that has a posting
-
-or_true : (a : Bool) → (a || true) ≡ true
-or_true true = refl
-or_true false = refl
 
 any_posted : (table : Contents) (number : ℕ) (key : Key) (test : DocKey → Bool) (ks : List DocKey) (k : DocKey) (audience : Audience) → Contains ks k → audience_at table (edge_to number key k.id) ≡ Some audience → test k ≡ true
     → list_any (λ (row : DocKey × Audience). test row.0) (map entry_of (filter_map (posting_to table number key) ks)) ≡ true

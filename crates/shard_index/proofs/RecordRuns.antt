@@ -10,7 +10,7 @@ use Rattle.uni_base.specs.declared.edge.EdgeRef.{EdgeRef}
 use Rattle.uni_base.specs.declared.edge.Held.{Held}
 use Rattle.uni_base.specs.EdgeOrder.{edge_cmp}
 use Rattle.shard_index.specs.Begun.{starts_as, last_of}
-use Rattle.shard_index.proofs.Squeezed.{Alike, alike_back, alike_from, starts_from, squeezed}
+use Rattle.shard_index.proofs.Squeezed.{Alike, alike_back, alike_from, starts_itself, starts_from, squeezed}
 
 abbrev edges_of : List Held → List EdgeRef
 edges_of = map (λ h. h.edge)
@@ -85,9 +85,6 @@ rising_from : (pre : List Held) (h : Held) (post : List Held) → AreRising (pre
 unfolding IsStrictlySortedBy
 rising_from [] h post rising = rising
 rising_from (x ∷ pre) h post rising = rising_from pre h post rising.1
-
-pub starts_itself : (h : Held) → starts_as h h ≡ true
-starts_itself h = starts_from h h (record { types = refl; keys = refl })
 
 -- an edge that does not start as the one before it begins all those that start as it does
 pub whole : (pre : List Held) (h : Held) (post : List Held) → AreRising (pre ++ h ∷ post) → Begins h (last_of pre) → filter (starts_as h) (pre ++ h ∷ post) ≡ take_while (starts_as h) (h ∷ post)

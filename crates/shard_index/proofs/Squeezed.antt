@@ -11,6 +11,7 @@ use Rattle.uni_base.specs.declared.edge.Key.{Key}
 use Rattle.uni_base.specs.EdgeOrder.{edge_cmp, key_cmp, key_cmp-total}
 use Rattle.posting_lists.proofs.Keys.{same_key}
 use Rattle.shard_index.specs.Begun.{starts_as}
+use Rattle.shard_index.proofs.LoggedMaps.{equal_of}
 
 -- two edges start alike
 pub record Alike (x y : Held) : Type 0 where
@@ -20,25 +21,20 @@ pub record Alike (x y : Held) : Type 0 where
 pub alike_back : (x y : Held) → Alike x y → Alike y x
 alike_back x y alike = record { types = sym alike.types; keys = sym alike.keys }
 
-is_equal : (o : Ordering) → is_eq o ≡ true → o ≡ Equal
-is_equal Less e = cc
-is_equal Equal e = refl
-is_equal Greater e = cc
-
 pub alike_from : (x y : Held) → starts_as x y ≡ true → Alike x y
 alike_from x y same = by (x.edge.type_no == y.edge.type_no) refl same
   where
     by : (t : Bool) → (x.edge.type_no == y.edge.type_no) ≡ t → (t && is_eq (key_cmp x.edge.key y.edge.key)) ≡ true → Alike x y
     by true at rest =
         let types : x.edge.type_no ≡ y.edge.type_no = grind (arith, nat_tests) in
-        record { types = types; keys = same_key x.edge.key y.edge.key (is_equal (key_cmp x.edge.key y.edge.key) rest) }
+        record { types = types; keys = same_key x.edge.key y.edge.key (equal_of (key_cmp x.edge.key y.edge.key) rest) }
     by false at rest = cc
 
-eqb_same : (n : ℕ) → (n == n) ≡ true
-eqb_same n = grind (arith, nat_tests)
+pub number_itself : (n : ℕ) → (n == n) ≡ true
+number_itself n = grind (arith, nat_tests)
 
-starts_itself : (x : Held) → starts_as x x ≡ true
-starts_itself x = λ i. eqb_same x.edge.type_no i && is_eq (tied_itself key_cmp-total x.edge.key i)
+pub starts_itself : (x : Held) → starts_as x x ≡ true
+starts_itself x = λ i. number_itself x.edge.type_no i && is_eq (tied_itself key_cmp-total x.edge.key i)
 
 pub starts_from : (x y : Held) → Alike x y → starts_as x y ≡ true
 starts_from x y alike = (λ i. (x.edge.type_no == sym alike.types i) && is_eq (key_cmp x.edge.key (sym alike.keys i))) ∙ starts_itself x

@@ -5,6 +5,7 @@ use Rattle.std.specs.List.{flat_map, range_with_len}
 use Rattle.std.specs.Option.{option_map_or}
 use Rattle.uni_schema.specs.Schema.{Declarations}
 use Rattle.uni_table.specs.Contents.{Contents, empty}
+use Rattle.layer_base.proofs.Frozen.{slice_get-map}
 use Rattle.shard_index.specs.Places.{StackPlace, stack_place, shard_places, vertical_places, places_from, places_in, stack_places, stack_count}
 use Rattle.shard_index.specs.Rows.{ShardRows, ShardChanges, no_rows, empty_layer, layer_over, stack_rows}
 use Rattle.shard_index.specs.Shards.{shard_rows}
@@ -16,11 +17,6 @@ use Rattle.shard_index.proofs.StackPlaces.{count_is, shard_more, vertical_more, 
 pub shard_rows-none : (schema : Declarations) (vertical shard : ℕ) → shard_rows schema empty vertical shard ≡ no_rows
 unfolding shard_rows
 shard_rows-none schema vertical shard = refl
-
-pub slice_get-map : {X Y : Type 0} (f : X → Y) (xs : List X) (i : ℕ) (x : X) → slice_get xs i ≡ Some x → slice_get (map f xs) i ≡ Some (f x)
-slice_get-map f [] i x e = cc
-slice_get-map f (y ∷ xs) zero x e = let is : y ≡ x = cc in ap (λ z. Some (f z)) is
-slice_get-map f (y ∷ xs) (suc i) x e = slice_get-map f xs i x e
 
 made_at : {X Y : Type 0} (f : X → Y) (xs : List X) (i : ℕ) (d : X) (y : Y) → slice_get (map f xs) i ≡ Some y → f (get_or xs i d) ≡ y
 made_at f [] i d y e = cc

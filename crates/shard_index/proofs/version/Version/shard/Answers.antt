@@ -1,11 +1,12 @@
 use Rattle.std.proofs.Common.{rules, arith, ◌≡◌, ◌<◌, [], Some, length, ap, ◌∙◌, sym, refl, slice_get}
 use Rattle.std.proofs.lemmas.List.{length-map}
 use Rattle.std.proofs.lemmas.Option.{get_or_from_slice_get, slice_get_read}
+use Rattle.layer_base.proofs.Frozen.{slice_get-map}
 use Rattle.shard_index.specs.Places.{stack_place, stack_no, stack_count}
 use Rattle.shard_index.specs.Rows.{stack_rows}
 use Rattle.shard_index.specs.Versions.{VersionState, layers_of}
 use Rattle.shard_index.proofs.StackPlaces.{stack_is_at}
-use Rattle.shard_index.proofs.Standing.{stands_at, slice_get-map}
+use Rattle.shard_index.proofs.Standing.{stands_at}
 use Rattle.shard_index.proofs.version.Version.shard.Goals as goal
 
 pub returns-clause-rows : goal.returns-clause-rows
