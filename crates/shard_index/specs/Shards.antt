@@ -37,7 +37,7 @@ posting_row schema table held =
 abbrev pub row_of : TermKey × Posting → Place × Audience
 row_of p = (place_of p.0 p.1.key, p.1.audience)
 
--- an edge in the record that it starts from
+-- an edge as an item of its record
 abbrev pub item_of : Held → ForwardItem
 item_of held = record { target = held.edge.target; audience = held.audience }
 
