@@ -1,0 +1,4 @@
+pub mod Records
+pub mod Edges
+pub mod Denials
+pub mod Rules
