@@ -1,6 +1,7 @@
 pub mod FieldLemmas
 mod Cut
 mod Digits
+mod Front
 mod Pieces
 pub mod RankedLemmas
 pub mod UnitedLemmas

@@ -43,6 +43,13 @@ impl<T> Rows<T> {
         }
     }
 
+    /// The items of a vector in order, with no allocation.
+    pub fn from_vec(items: Vec<T>) -> Rows<T>
+        ensures { result ≡ items.items }
+    {
+        Rows { items }
+    }
+
     pub fn len(&self) -> usize
         ensures { result ≡ length self.now }
     {

@@ -1,5 +1,5 @@
-ghost use Rattle.std.specs.Prelude.{◌≡◌, ◌≤◌, true, length, Some, None, if◌then◌else◌};
-ghost use Rattle.std.specs.List.{list_all};
+ghost use Rattle.std.specs.Prelude.{◌≡◌, ◌≤◌, ◌++◌, true, false, length, Some, None, if◌then◌else◌, MatchOption};
+ghost use Rattle.std.specs.List.{list_all, prefix_len, take_while};
 ghost use Rattle.uni_base.specs.Padding.{padded};
 ghost use Rattle.std.proofs.Common.{rules};
 ghost use Rattle.std.specs.Cmp.{partial_order_from_own_ties};
@@ -48,6 +48,23 @@ impl Word {
             len: text.len() as u8,
             bytes: padded(text),
         })
+    }
+
+    /// The word that a text begins with, as far as its bytes belong to words, and the text after it. None
+    /// where that is no word: it is empty, or of more than 32 bytes.
+    pub fn read_front(text: &[u8]) -> Option<(Word, &[u8])>
+        ensures { MatchOption result (is_word (take_while is_word_byte text.now) ≡ false)
+            (λ parts. (parts.0 ≡ take_while is_word_byte text.now) × (text.now ≡ parts.0 ++ parts.1.now)) }
+    {
+        let len = word_bytes(text);
+        if len == 0 || len > 32 {
+            return None;
+        }
+        let word = Word {
+            len: len as u8,
+            bytes: padded(&text[..len]),
+        };
+        Some((word, &text[len..]))
     }
 
     pub fn bytes(&self) -> &[u8]
@@ -124,6 +141,18 @@ fn all_word_bytes(text: &[u8]) -> bool
     ensures { result ≡ list_all is_word_byte text.now }
 {
     text.iter().all(|byte| is_word_byte(*byte))
+}
+
+// How many bytes at the front of a text belong to words.
+fn word_bytes(text: &[u8]) -> usize
+    ensures { result ≡ prefix_len is_word_byte text.now }
+{
+    for (i, byte) in text.iter().enumerate() {
+        if !is_word_byte(*byte) {
+            return i;
+        }
+    }
+    text.len()
 }
 
 // The text in an array, followed by zeros.
