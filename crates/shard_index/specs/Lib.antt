@@ -1,8 +1,13 @@
+pub mod Batches
 pub mod Begun
+pub mod ChangedRows
+pub mod Differences
 pub mod Entities
 pub mod Joined
 pub mod Laws
 pub mod Places
 pub mod Rows
 pub mod Shards
+pub mod Split
+pub mod Touched
 pub mod Versions

@@ -3,6 +3,7 @@
 #![tactic(auto)]
 
 mod base;
+mod batch;
 mod delta;
 mod entities;
 mod index;
@@ -17,6 +18,7 @@ mod stacks;
 mod tests;
 mod version;
 
+pub use batch::batch_layers;
 pub use delta::EntityDelta;
 pub use entities::EntityLayer;
 pub use index::{ShardIndex, TermCursor};

@@ -1,0 +1,158 @@
+//! What a batch changed of the postings of a shard.
+ghost use Rattle.std.specs.Prelude.{◌≡◌, ◌<◌, Some, length, IfOk, OnOk};
+ghost use Rattle.std.specs.List.{All};
+ghost use Rattle.std.specs.Ordering.{eq_by_cmp};
+ghost use Rattle.uni_table.specs.Changes.{rank_at};
+ghost use Rattle.layer_stack.specs.Places.{place_cmp};
+ghost use Rattle.layer_stack.specs.Postings.{deleting, putting};
+ghost use Rattle.shard_index.specs.ChangedRows.{same_audience, is_posted, posting_for, turning, with_change, batch_postings, TakesBack};
+
+use crate::EntityLayer;
+use layer_stack::{Delta, Layer, Place, TermKey};
+use posting_lists::Posting;
+use std::alloc::{AllocError, Global};
+use uni_base::{Audience, DocKey, EdgeRef, EntityId, Rank};
+use uni_schema::{Schema, Store};
+use uni_table::{EdgeChange, EdgeRow, Table};
+
+/// The layer of the postings of a shard that changed. `back` takes the ranks of entities back to what
+/// they were as the last batch ended.
+pub(super) fn shard_postings(
+    alloc: Global,
+    table: &Table,
+    back: &EntityLayer,
+    vertical: u16,
+    shard: u32,
+    changes: &[EdgeChange],
+) -> Result<Layer, AllocError>
+    requires vertical { vertical < length table.now.schema.verticals }
+    requires declared { All (λ c. c.edge.type_no < length table.now.schema.types) changes.now }
+    requires back { TakesBack back.now table.now.contents table.now.published }
+    ensures { IfOk result (λ layer. layer ≡ batch_postings table.now vertical shard changes.now) }
+{
+    let mut delta = Delta::new(alloc);
+    for change in changes {
+        if is_posted(table.schema(), vertical, shard, &change.edge) {
+            note_change(&mut delta, table, back, change)?;
+        }
+    }
+    Layer::build(alloc, delta)
+}
+
+// Whether an edge is an index edge into a shard of a vertical.
+fn is_posted(schema: &Schema, vertical: u16, shard: u32, edge: &EdgeRef) -> bool
+    requires vertical { vertical < length schema.now.verticals }
+    requires declared { edge.now.type_no < length schema.now.types }
+    ensures { result ≡ is_posted schema.now vertical shard edge.now }
+{
+    let type_def = schema.type_def(edge.type_no);
+    type_def.store == Store::Index
+        && type_def.target == vertical
+        && schema.shard_of(vertical, edge.target) == shard
+}
+
+// Notes what became of the posting of an edge.
+fn note_change(
+    delta: &mut Delta,
+    table: &Table,
+    back: &EntityLayer,
+    change: &EdgeChange,
+) -> Result<(), AllocError>
+    requires { TakesBack back.now table.now.contents table.now.published }
+    ensures { OnOk result (delta.new ≡ with_change table.now delta.old change.now) }
+{
+    let target = change.edge.target;
+    let rank = rank_now(table, target);
+    let was = posting(&change.edge, back.over(rank, target), change.before);
+    let now = posting(&change.edge, rank, change.after);
+    note(delta, &was, &now)
+}
+
+// The rank of an entity. None where it is none.
+fn rank_now(table: &Table, id: EntityId) -> Option<Rank>
+    ensures { result ≡ rank_at table.now.contents id }
+{
+    Some(table.entity(id)?.rank)
+}
+
+// The posting of an edge with a row, at the rank of its target.
+fn posting(edge: &EdgeRef, rank: Option<Rank>, row: Option<EdgeRow>) -> Option<(Place, Audience)>
+    ensures { result ≡ posting_for edge.now rank row }
+{
+    let audience = row?.audience;
+    let key = DocKey {
+        rank: rank?,
+        id: edge.target,
+    };
+    let term = TermKey {
+        type_no: edge.type_no,
+        key: edge.key,
+    };
+    Some((Place { term, key }, audience))
+}
+
+// Notes that there was a posting and that there is one now, where there was or is one.
+fn note(
+    delta: &mut Delta,
+    was: &Option<(Place, Audience)>,
+    now: &Option<(Place, Audience)>,
+) -> Result<(), AllocError>
+    ensures { OnOk result (delta.new ≡ turning delta.old was.now now.now) }
+{
+    match (was, now) {
+        (None, None) => Ok(()),
+        (Some((place, _)), None) => delete(delta, place),
+        (None, Some((place, audience))) => put(delta, place, audience),
+        (Some(was), Some(now)) => note_both(delta, was, now),
+    }
+}
+
+// Notes that there was a posting and that there is one now.
+fn note_both(
+    delta: &mut Delta,
+    was: &(Place, Audience),
+    now: &(Place, Audience),
+) -> Result<(), AllocError>
+    ensures { OnOk result (delta.new ≡ turning delta.old (Some was.now) (Some now.now)) }
+{
+    let stays = same_place(&was.0, &now.0);
+    if stays && same_audience(&was.1, &now.1) {
+        return Ok(());
+    }
+    if !stays {
+        delete(delta, &was.0)?;
+    }
+    put(delta, &now.0, &now.1)
+}
+
+// Deletes the posting at a place.
+fn delete(delta: &mut Delta, place: &Place) -> Result<(), AllocError>
+    ensures { OnOk result (delta.new ≡ deleting delta.old place.now) }
+{
+    delta.delete(place.term, place.key)
+}
+
+// Puts a posting.
+fn put(delta: &mut Delta, place: &Place, audience: &Audience) -> Result<(), AllocError>
+    ensures { OnOk result (delta.new ≡ putting delta.old place.now audience.now) }
+{
+    let posting = Posting {
+        key: place.key,
+        audience: *audience,
+    };
+    delta.put(place.term, posting)
+}
+
+// Whether two places are the same.
+fn same_place(one: &Place, other: &Place) -> bool
+    ensures { result ≡ eq_by_cmp place_cmp one.now other.now }
+{
+    one.cmp(other).is_eq()
+}
+
+/// Whether two audiences are the same.
+pub(super) fn same_audience(one: &Audience, other: &Audience) -> bool
+    ensures { result ≡ same_audience one.now other.now }
+{
+    one == other
+}

@@ -1,0 +1,99 @@
+//! The layers of a batch of a small table.
+use crate::{ShardIndex, batch_layers};
+use feed_reader::{FeedLine, read_feed_line};
+use std::alloc::Global;
+use std::process::Abort;
+use std::sync::Arc;
+use std::test::Fail;
+use uni_base::{Limits, Rank, cut_at, read_id};
+use uni_schema::{HeaderReader, Schema};
+use uni_table::Table;
+
+// Users in two shards and photos in one. A bar ends a line.
+const HEADER: &[u8] =
+    b"unicorn 2|vertical user 2 1|vertical photo 1 1|type friend user user both index|type lives word user target index|type tagged user photo source index|type shows photo user source forward|begin";
+
+const ROWS: &[u8] =
+    b"entity user 1 50|entity user 2 90|entity user 3 90|entity user 5 70|entity photo 102 9|edge friend 1 2 public|edge friend 1 3 public|edge friend 1 5 public|edge lives rome 5 public|edge tagged 3 102 public|edge shows 102 2 public|edge shows 102 1 public";
+
+// User 5 moves to another rank, and user 3 is gone, whose photo keeps a tag no longer; the photo shows one
+// user less. What is said again of user 2 and of user 1's friend is as it was.
+const BATCH: &[u8] =
+    b"entity user 5 95|gone 3|cut shows 102 2|entity user 2 90|edge friend 1 2 public";
+
+// The entries of the layers: none of even users; of odd ones a put and a removal of entities, the two
+// postings of user 5 deleted and put, and that of user 3 deleted; of photos a posting deleted, and a record.
+const ENTRIES: [u128; 3] = [0, 7, 2];
+
+fn schema(alloc: Global) -> Result<Schema, Fail> {
+    let mut header = HeaderReader::new(alloc, Limits::standard());
+    let mut rest = HEADER;
+    for line_no in 1..=20 {
+        let (line, others) = cut_at(rest, b'|').unwrap_or((rest, b""));
+        match header.take(line_no, line) {
+            Ok(true) => return Ok(header.schema()),
+            Ok(false) => rest = others,
+            Err(_) => return Err("no header")?,
+        }
+    }
+    Err("no begin")?
+}
+
+// Whether a line is a change that the table takes.
+fn is_put(table: &mut Table, line: &[u8]) -> bool {
+    let Ok(FeedLine::Change(command)) = read_feed_line(table.schema(), line) else {
+        return false;
+    };
+    table.put(&command).is_ok()
+}
+
+fn put_all(rt: &impl Abort, table: &mut Table, lines: &[u8]) {
+    for line in lines.split(|byte| *byte == b'|') {
+        assert!(rt; is_put(table, line));
+    }
+}
+
+fn published(rt: &impl Abort, alloc: Global) -> Result<Table, Fail> {
+    let schema = Arc::new(alloc, schema(alloc)?)?;
+    let mut table = Table::new(alloc, schema, Limits::standard());
+    put_all(rt, &mut table, ROWS);
+    table.begin_batch();
+    Ok(table)
+}
+
+#[test]
+fn a_batch_has_a_layer_for_each_shard(rt: HostRuntime) -> Result<(), Fail> {
+    let mut table = published(&rt, rt.alloc())?;
+    put_all(&rt, &mut table, BATCH);
+    let layers = batch_layers(rt.alloc(), &table)?;
+    assert_eq!(rt; layers.len(), 3);
+    for (number, layer) in layers.iter().enumerate() {
+        assert!(rt;
+            ENTRIES.get(number) == Some(&layer.entries()),
+            "at {number}"
+        );
+    }
+    Ok(())
+}
+
+// The rank of an entity in the second shard of users, after a batch.
+fn rank_after(rt: &impl Abort, alloc: Global, id: &[u8]) -> Result<Option<Rank>, Fail> {
+    let mut table = published(rt, alloc)?;
+    if table.schema().verticals() == 0 {
+        return Err("no vertical")?;
+    }
+    let mut index = ShardIndex::rebuild(alloc, &table, 0, 1)?.roomy(1)?;
+    put_all(rt, &mut table, BATCH);
+    let layers = batch_layers(alloc, &table)?;
+    let layer = layers.get(1).ok_or("no layer")?;
+    index.push_layer_reserved(layer.share()?);
+    Ok(index.rank_of(read_id(id).ok_or("no id")?))
+}
+
+#[test]
+fn a_layer_over_an_index(rt: HostRuntime) -> Result<(), Fail> {
+    assert_eq!(rt; rank_after(&rt, rt.alloc(), b"5")?, Some(Rank(95)));
+    assert_eq!(rt; rank_after(&rt, rt.alloc(), b"3")?, None);
+    assert_eq!(rt; rank_after(&rt, rt.alloc(), b"1")?, Some(Rank(50)));
+    Ok(())
+}
