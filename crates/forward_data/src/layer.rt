@@ -1,4 +1,4 @@
-ghost use Rattle.std.specs.Prelude.{◌≡◌, ◌++◌, T, map, OnOk, OnErr, IfOk};
+ghost use Rattle.std.specs.Prelude.{◌≡◌, ◌<◌, ◌^◌, ◌++◌, T, map, OnOk, OnErr, IfOk};
 ghost use Rattle.std.specs.FinMap as finite;
 ghost use Rattle.std.specs.FinMap.{is_sorted};
 ghost use Rattle.std.specs.Option.{option_map};
@@ -96,7 +96,8 @@ impl ForwardLayer {
 
     /// The number of its records.
     pub fn entries(&self) -> u64
-        ensures { result ≡ finite.len self.now }
+        ensures entries { result ≡ finite.len self.now }
+        ensures few { result < 2 ^ 63 }
     {
         self.rows.len() as u64
     }

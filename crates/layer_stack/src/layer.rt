@@ -1,4 +1,4 @@
-ghost use Rattle.std.specs.Prelude.{◌≡◌, ◌≤◌, ◌+◌, ◌++◌, T, length, map, IfOk, OnOk};
+ghost use Rattle.std.specs.Prelude.{◌≡◌, ◌≤◌, ◌+◌, ◌^◌, ◌++◌, T, length, map, IfOk, OnOk};
 ghost use Rattle.std.specs.FinMap as finite;
 ghost use Rattle.std.specs.FinMap.{is_sorted};
 ghost use Rattle.layer_stack.specs.Places.{place_cmp};
@@ -91,7 +91,8 @@ impl Layer {
 
     /// The number of its deletes and puts.
     pub fn entries(&self) -> u64
-        ensures { result ≡ entries_of self.now }
+        ensures entries { result ≡ entries_of self.now }
+        ensures few { result ≤ 2 ^ 62 }
     {
         self.postings.len() as u64 + self.deleted.len() as u64
     }
