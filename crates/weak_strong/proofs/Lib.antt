@@ -2,7 +2,7 @@ mod Counting
 mod Leapt
 mod Passing
 mod Placed
-mod Settled
+pub mod Settled
 mod Sought
 mod Started
 mod Walked
