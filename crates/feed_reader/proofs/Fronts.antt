@@ -133,7 +133,7 @@ after_cases word text after (Some rest) solid same_front left ends =
     ap fields_of whole ∙ front_ends word after rest solid ends
 
 -- a word and what follows it begin as the text does that follows
-with_word : (word front text : List ℕ) → begins_with (word ++ front) (word ++ text) ≡ begins_with front text
+pub with_word : (word front text : List ℕ) → begins_with (word ++ front) (word ++ text) ≡ begins_with front text
 with_word [] front text = refl
 with_word (c ∷ word) front text = ap (λ b. b && begins_with (word ++ front) (word ++ text)) (equal_self c) ∙ with_word word front text
 

@@ -2,6 +2,7 @@ pub mod Circles
 pub mod Digits
 pub mod Forms
 pub mod FrontNumbers
+pub mod FrontWords
 pub mod Fronts
 pub mod Numerals
 pub mod Parts

@@ -62,7 +62,8 @@ digit_no_space c h = grind (arith, nat_tests)
 pub digits_solid : (text : List ℕ) → list_all is_digit text ≡ true → list_all (is_other 32) text ≡ true
 digits_solid text digits = all_weaker is_digit (is_other 32) digit_no_space text digits
 
-word_bytes : (word : List ℕ) → is_word word ≡ true → list_all is_word_byte word ≡ true
+-- the bytes of a word are those of words
+pub word_bytes : (word : List ℕ) → is_word word ≡ true → list_all is_word_byte word ≡ true
 word_bytes word is = (and_parts (nat_le 1 (length word) && nat_le (length word) 32) (list_all is_word_byte word) is).1
 
 name_bytes : (name : List ℕ) → is_name name ≡ true → list_all is_word_byte name ≡ true

@@ -1,8 +1,8 @@
 -- Fields that are taken from the front of a line.
-use Rattle.std.specs.Prelude.{ℕ, Bool, true, false, not, ◌≡◌, ◌==◌, List, [], ◌∷◌, ◌++◌, length, take, Option, None, Some, Result, Ok, Err}
+use Rattle.std.specs.Prelude.{ℕ, Bool, true, false, not, ◌≡◌, ◌≢◌, ◌==◌, List, [], ◌∷◌, ◌++◌, length, take, Option, None, Some, Result, Ok, Err}
 use Rattle.std.specs.List.{list_all}
-use Rattle.std.specs.Option.{option_map}
-use Rattle.uni_base.specs.Fields.{same}
+use Rattle.std.specs.Option.{option_map, option_and_then}
+use Rattle.uni_base.specs.Fields.{same, cut_at}
 use Rattle.uni_schema.specs.Lines.{name_of}
 use Rattle.feed_reader.specs.declared.fault.LineFault.{LineFault}
 use Rattle.feed_reader.specs.declared.fault.LineFault.TheVariants.{BadLine}
@@ -25,6 +25,16 @@ first_as read (field ∷ fields) = option_map (λ found. (found, fields)) (read 
 abbrev pub TakesAs : {A : Type 0} → (List ℕ → Option A) → (old new : List (List ℕ)) → Result A LineFault → Type 0
 TakesAs read old new (Ok found) = first_as read old ≡ Some (found, new)
 TakesAs read old new (Err fault) = (fault ≡ BadLine) × (first_as read old ≡ None)
+
+-- what the first of some fields is read as up to its first colon, with what is left of it and the fields after it
+abbrev pub front_as : {A : Type 0} → (List ℕ → Option A) → List (List ℕ) → Option (A × List (List ℕ))
+front_as read [] = None
+front_as read (field ∷ fields) = option_and_then (λ parts. option_map (λ found. (found, parts.1 ∷ fields)) (read parts.0)) (cut_at 58 field)
+
+-- the front of the first field was read, and it and its colon were taken off; or it is not of the form that is wanted
+abbrev pub TakesFrontAs : {A : Type 0} → (List ℕ → Option A) → (old new : List (List ℕ)) → Result A LineFault → Type 0
+TakesFrontAs read old new (Ok found) = front_as read old ≡ Some (found, new)
+TakesFrontAs read old new (Err fault) = (fault ≡ BadLine) × (front_as read old ≡ None)
 
 -- whether the first of some fields is a word
 abbrev pub is_first : List ℕ → List (List ℕ) → Bool
@@ -56,7 +66,7 @@ first_begins front (field ∷ fields) = begins_with front field
 
 -- a word and a colon were taken off the first field, or else it does not begin with them
 abbrev pub HasTakenFront : List ℕ → (old new : List (List ℕ)) → Bool → Type 0
-HasTakenFront word old new true = old ≡ onto_fields (in_front word) new
+HasTakenFront word old new true = (old ≡ onto_fields (in_front word) new) × (new ≢ [])
 HasTakenFront word old new false = (new ≡ old) × (first_begins (in_front word) old ≡ false)
 
 -- the number of a name, if it is declared

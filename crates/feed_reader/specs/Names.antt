@@ -1,5 +1,5 @@
 -- The names that were found last, each with its number.
-use Rattle.std.specs.Prelude.{ℕ, ◌≡◌, true, List, ◌∷◌, Option, None, Some, ⊤}
+use Rattle.std.specs.Prelude.{ℕ, ◌≡◌, ◌≢◌, true, List, [], ◌∷◌, Option, None, Some, ⊤}
 use Rattle.feed_reader.specs.Fields.{in_front, onto_fields}
 use Rattle.uni_schema.specs.Schema.{Declarations, is_name, vertical_no, type_no}
 use Rattle.feed_reader.specs.declared.names.Found.{Found}
@@ -24,4 +24,4 @@ IsLast (Some found) old new number = (old ≡ found.name ∷ new) × (number ≡
 -- the last name with its number stood before a colon at the front of the first field, and both were taken off it
 abbrev pub IsLastBefore : Option Found → (old new : List (List ℕ)) → ℕ → Type 0
 IsLastBefore None old new number = ⊥
-IsLastBefore (Some found) old new number = (old ≡ onto_fields (in_front found.name) new) × (number ≡ found.number)
+IsLastBefore (Some found) old new number = (old ≡ onto_fields (in_front found.name) new) × (new ≢ []) × (number ≡ found.number)

@@ -9,7 +9,6 @@ ghost use Rattle.feed_reader.specs.declared.fault.LineFault.TheVariants.{BadLine
 
 use crate::fields::LineFields;
 use crate::{LastNames, LineFault};
-use uni_base::{Word, cut_at};
 use uni_schema::Schema;
 use uni_table::AudienceText;
 
@@ -51,27 +50,8 @@ fn read_circle(
     ensures declared { IfOk result (λ audience. IfSome audience (IsDeclaredAudience schema.now)) }
     ensures names { AreOf schema.now names.new }
 {
-    if let Some(number) = names.take_circle(fields) {
-        let key = fields.word()?;
-        return Ok(Some(AudienceText::Circle(number, key)));
-    }
-    circle_of(schema, names, fields.next()?)
-}
-
-// The circle that a text is, after `in:`, likewise.
-fn circle_of(
-    schema: &Schema,
-    names: &mut LastNames,
-    text: &[u8],
-) -> Result<Option<AudienceText>, LineFault>
-    requires { AreOf schema.now names.old }
-    ensures circle { result ≡ told (circle_by schema.now text.now) }
-    ensures declared { IfOk result (λ audience. IfSome audience (IsDeclaredAudience schema.now)) }
-    ensures names { AreOf schema.now names.new }
-{
-    let (type_name, key) = cut_at(text, b':').ok_or(LineFault::BadLine)?;
-    let number = names.circle_no(schema, type_name)?;
-    let key = Word::read(key).ok_or(LineFault::BadLine)?;
+    let number = names.circle_no(schema, fields)?;
+    let key = fields.word()?;
     match number {
         Some(number) => Ok(Some(AudienceText::Circle(number, key))),
         None => Ok(None),

@@ -1,7 +1,11 @@
-ghost use Rattle.std.specs.Prelude.{◌≡◌, ◌≢◌, ◌↔◌, ◌≤◌, [], ◌∷◌, ◌++◌, true, false, IfOk, IsTrue, MatchOption, MatchResult};
+ghost use Rattle.std.specs.Prelude.{◌≡◌, ◌≢◌, ◌↔◌, ◌≤◌, [], ◌∷◌, ◌++◌, true, false, None, Some, IfOk, IfSome, IsTrue, MatchOption, MatchResult};
+ghost use Rattle.std.specs.List.{take_while};
 ghost use Rattle.uni_base.specs.Fields.{fields_of};
 ghost use Rattle.uni_base.specs.Numbers.{id_of, number_between};
-ghost use Rattle.feed_reader.specs.Fields.{HasTaken, HasTakenFront, TakesAs, begins_with, goes_on, in_front, is_first, is_solid};
+ghost use Rattle.uni_base.specs.Words.{is_word, is_word_byte};
+ghost use Rattle.uni_schema.specs.Lines.{name_of};
+ghost use Rattle.uni_schema.specs.Schema.{is_name};
+ghost use Rattle.feed_reader.specs.Fields.{HasTaken, HasTakenFront, TakesAs, TakesFrontAs, begins_with, first_as, front_as, goes_on, in_front, is_first, is_solid};
 ghost use Rattle.feed_reader.specs.Reading.{word_of};
 ghost use Rattle.feed_reader.specs.declared.fault.LineFault.TheVariants.{BadLine};
 
@@ -71,32 +75,50 @@ impl<'a> LineFields<'a> {
         }
     }
 
-    /// The next field.
-    pub(crate) fn next(&mut self) -> Result<&'a [u8], LineFault>
-        ensures { MatchResult result
-            (λ field. self.old ≡ field.now ∷ self.new)
-            (λ fault. (self.old ≡ []) × (fault ≡ BadLine)) }
-    {
-        let Some(text) = self.rest else {
-            return Err(LineFault::BadLine);
-        };
-        match cut_at(text, b' ') {
-            Some((field, rest)) => {
-                self.rest = Some(rest);
-                Ok(field)
-            }
-            None => {
-                self.rest = None;
-                Ok(text)
-            }
-        }
-    }
-
     /// The word that the next field is.
     pub(crate) fn word(&mut self) -> Result<Word, LineFault>
         ensures { TakesAs word_of self.old self.new result }
     {
-        Word::read(self.next()?).ok_or(LineFault::BadLine)
+        let Some(text) = self.rest else {
+            return Err(LineFault::BadLine);
+        };
+        match first_word(text) {
+            Some((word, rest)) => {
+                *self = rest;
+                Ok(word)
+            }
+            None => Err(LineFault::BadLine),
+        }
+    }
+
+    /// The name that the next field is.
+    pub(crate) fn name(&mut self) -> Result<Word, LineFault>
+        ensures name { TakesAs name_of self.old self.new result }
+        ensures named { IfOk result (λ name. is_name name ≡ true) }
+    {
+        let word = self.word()?;
+        if word.is_name() {
+            Ok(word)
+        } else {
+            Err(LineFault::BadLine)
+        }
+    }
+
+    /// The name at the front of the next field, before a colon. Both are taken off it.
+    pub(crate) fn front_name(&mut self) -> Result<Word, LineFault>
+        ensures name { TakesFrontAs name_of self.old self.new result }
+        ensures named { IfOk result (λ name. is_name name ≡ true) }
+    {
+        let Some(text) = self.rest else {
+            return Err(LineFault::BadLine);
+        };
+        match name_before_colon(text) {
+            Some((name, rest)) => {
+                self.rest = Some(rest);
+                Ok(name)
+            }
+            None => Err(LineFault::BadLine),
+        }
     }
 
     /// The id that the next field is.
@@ -135,6 +157,27 @@ impl<'a> LineFields<'a> {
         ensures within { IfOk result (λ n. (low ≤ n) × (n ≤ high)) }
     {
         read_between(self.next()?, low, high).ok_or(LineFault::BadLine)
+    }
+
+    // The next field, whatever it is.
+    fn next(&mut self) -> Result<&'a [u8], LineFault>
+        ensures { MatchResult result
+            (λ field. self.old ≡ field.now ∷ self.new)
+            (λ fault. (self.old ≡ []) × (fault ≡ BadLine)) }
+    {
+        let Some(text) = self.rest else {
+            return Err(LineFault::BadLine);
+        };
+        match cut_at(text, b' ') {
+            Some((field, rest)) => {
+                self.rest = Some(rest);
+                Ok(field)
+            }
+            None => {
+                self.rest = None;
+                Ok(text)
+            }
+        }
     }
 
     /// Whether no field is left.
@@ -211,4 +254,49 @@ fn after_colon(text: &[u8]) -> Option<&[u8]>
         return None;
     }
     Some(&text[1..])
+}
+
+// The word that the first field of a text is, and the fields after it.
+fn first_word(text: &[u8]) -> Option<(Word, LineFields<'_>)>
+    ensures { result ≡ first_as word_of (fields_of text.now) }
+{
+    let Some((word, after)) = front_word(text) else {
+        return None;
+    };
+    match fields_after(after) {
+        Some(rest) => Some((word, rest)),
+        None => None,
+    }
+}
+
+// The name that stands before the first colon of a text's first field, and the text after that.
+fn name_before_colon(text: &[u8]) -> Option<(Word, &[u8])>
+    ensures name { MatchOption result (front_as name_of (fields_of text.now) ≡ None)
+        (λ parts. front_as name_of (fields_of text.now) ≡ Some (parts.0, fields_of parts.1.now)) }
+    ensures named { IfSome result (λ parts. is_name parts.0 ≡ true) }
+{
+    let Some((word, after)) = front_word(text) else {
+        return None;
+    };
+    if !word.is_name() {
+        return None;
+    }
+    match after_colon(after) {
+        Some(rest) => Some((word, rest)),
+        None => None,
+    }
+}
+
+// The word at the front of a text, and the text after it.
+fn front_word(text: &[u8]) -> Option<(Word, &[u8])>
+    ensures { MatchOption result (is_word (take_while is_word_byte text.now) ≡ false)
+        (λ parts. (is_word parts.0 ≡ true) × (parts.0 ≡ take_while is_word_byte text.now)
+        × (text.now ≡ parts.0 ++ parts.1.now)) }
+{
+    let Some((word, after)) = Word::read_front(text) else {
+        return None;
+    };
+    // `bytes` says that the word is one, which `read_front` leaves out.
+    let _ = word.bytes();
+    Some((word, after))
 }

@@ -1,9 +1,7 @@
-ghost use Rattle.std.specs.Prelude.{◌≡◌, ◌<◌, Some, None, Ok, Err, length, IfOk, IfSome, MatchOption};
-ghost use Rattle.feed_reader.specs.Fields.{TakesAs, number_by};
+ghost use Rattle.std.specs.Prelude.{◌≡◌, ◌<◌, true, Some, None, Ok, Err, length, IfOk, IfSome, MatchOption};
+ghost use Rattle.feed_reader.specs.Fields.{TakesAs, TakesFrontAs, number_by};
 ghost use Rattle.feed_reader.specs.Names.{AreOf, IsFoundBy, IsLast, IsLastBefore};
-ghost use Rattle.feed_reader.specs.Parts.{told};
-ghost use Rattle.uni_schema.specs.Schema.{Declarations, vertical_no, type_no};
-ghost use Rattle.uni_schema.specs.Lines.{name_of};
+ghost use Rattle.uni_schema.specs.Schema.{Declarations, is_name, vertical_no, type_no};
 
 use crate::LineFault;
 use crate::fields::LineFields;
@@ -55,7 +53,8 @@ impl LastNames {
         if let Some(number) = take_last(&self.vertical, fields) {
             return Ok(Some(number));
         }
-        vertical_by(&mut self.vertical, schema, fields.next()?)
+        let name = fields.name()?;
+        Ok(vertical_by(&mut self.vertical, schema, name))
     }
 
     /// The number of the type of an edge by its name, likewise.
@@ -74,75 +73,58 @@ impl LastNames {
         if let Some(number) = take_last(&self.edge_type, fields) {
             return Ok(Some(number));
         }
-        type_by(&mut self.edge_type, schema, fields.next()?)
+        let name = fields.name()?;
+        Ok(type_by(&mut self.edge_type, schema, name))
     }
 
-    /// The number of the last circle's type, if its name and a colon begin the next field. They are then
-    /// taken off it.
-    pub(crate) fn take_circle(&self, fields: &mut LineFields<'_>) -> Option<u16>
-        ensures { MatchOption result (fields.new ≡ fields.old)
-            (λ number. IsLastBefore self.now.circle fields.old fields.new number) }
-    {
-        match &self.circle {
-            Some(found) if fields.take_front(found.name.bytes()) => Some(found.number),
-            _ => None,
-        }
-    }
-
-    /// The number of the type of a circle by its name. None where it is not declared; a fault where the
-    /// text is no name.
+    /// The number of the type of a circle by its name, which stands before a colon at the front of the next
+    /// field, likewise. Both are taken off it.
     pub(crate) fn circle_no(
         &mut self,
         schema: &Schema,
-        text: &[u8],
+        fields: &mut LineFields<'_>,
     ) -> Result<Option<u16>, LineFault>
         requires { AreOf schema.now self.old }
-        ensures number { result ≡ told (number_by (type_no schema.now) text.now) }
+        ensures number { TakesFrontAs (number_by (type_no schema.now)) fields.old fields.new result }
         ensures within { IfOk result (λ number.
             IfSome number (λ n. n < length schema.now.types)) }
         ensures kept { AreOf schema.now self.new }
     {
-        type_by(&mut self.circle, schema, text)
+        if let Some(number) = take_last_front(&self.circle, fields) {
+            return Ok(Some(number));
+        }
+        let name = fields.front_name()?;
+        Ok(type_by(&mut self.circle, schema, name))
     }
 }
 
 // The number of a vertical by its name, which becomes the last one. Not inlined, so that the readers of
 // names stay small.
 #[inline(never)]
-fn vertical_by(
-    last: &mut Option<Found>,
-    schema: &Schema,
-    text: &[u8],
-) -> Result<Option<u16>, LineFault>
-    requires { IsFoundBy (vertical_no schema.now) last.old }
-    ensures number { result ≡ told (number_by (vertical_no schema.now) text.now) }
-    ensures within { IfOk result (λ number.
-        IfSome number (λ n. n < length schema.now.verticals)) }
+fn vertical_by(last: &mut Option<Found>, schema: &Schema, name: Word) -> Option<u16>
+    requires found { IsFoundBy (vertical_no schema.now) last.old }
+    requires named { is_name name ≡ true }
+    ensures number { result ≡ vertical_no schema.now name }
+    ensures within { IfSome result (λ n. n < length schema.now.verticals) }
     ensures kept { IsFoundBy (vertical_no schema.now) last.new }
 {
-    let name = name_of(text)?;
-    let Some(number) = schema.vertical_no(&name) else {
-        return Ok(None);
-    };
+    let number = schema.vertical_no(&name)?;
     *last = Some(Found { name, number });
-    Ok(Some(number))
+    Some(number)
 }
 
 // The number of a type by its name, which becomes the last one.
 #[inline(never)]
-fn type_by(last: &mut Option<Found>, schema: &Schema, text: &[u8]) -> Result<Option<u16>, LineFault>
-    requires { IsFoundBy (type_no schema.now) last.old }
-    ensures number { result ≡ told (number_by (type_no schema.now) text.now) }
-    ensures within { IfOk result (λ number.
-        IfSome number (λ n. n < length schema.now.types)) }
+fn type_by(last: &mut Option<Found>, schema: &Schema, name: Word) -> Option<u16>
+    requires found { IsFoundBy (type_no schema.now) last.old }
+    requires named { is_name name ≡ true }
+    ensures number { result ≡ type_no schema.now name }
+    ensures within { IfSome result (λ n. n < length schema.now.types) }
     ensures kept { IsFoundBy (type_no schema.now) last.new }
 {
-    let name = name_of(text)?;
-    let Some(number) = schema.type_no(&name) else {
-        return Ok(None);
-    };
+    let number = schema.type_no(&name)?;
     *last = Some(Found { name, number });
-    Ok(Some(number))
+    Some(number)
 }
 
 // The number of the last name, if that is the next field, which is then taken.
@@ -157,12 +139,14 @@ fn take_last(last: &Option<Found>, fields: &mut LineFields<'_>) -> Option<u16>
     }
 }
 
-// The name that a text is.
-fn name_of(text: &[u8]) -> Result<Word, LineFault>
-    ensures { result ≡ told (name_of text.now) }
+// The number of the last name, if that stands before a colon at the front of the next field. Both are then
+// taken off it.
+fn take_last_front(last: &Option<Found>, fields: &mut LineFields<'_>) -> Option<u16>
+    ensures { MatchOption result (fields.new ≡ fields.old)
+        (λ number. IsLastBefore last.now fields.old fields.new number) }
 {
-    match Word::read(text) {
-        Some(word) if word.is_name() => Ok(word),
-        _ => Err(LineFault::BadLine),
+    match last {
+        Some(found) if fields.take_front(found.name.bytes()) => Some(found.number),
+        _ => None,
     }
 }
