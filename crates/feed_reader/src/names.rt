@@ -53,8 +53,7 @@ impl LastNames {
         if let Some(number) = take_last(&self.vertical, fields) {
             return Ok(Some(number));
         }
-        let name = fields.name()?;
-        Ok(vertical_by(&mut self.vertical, schema, name))
+        vertical_by(&mut self.vertical, schema, fields)
     }
 
     /// The number of the type of an edge by its name, likewise.
@@ -98,19 +97,26 @@ impl LastNames {
     }
 }
 
-// The number of a vertical by its name, which becomes the last one. Not inlined, so that the readers of
-// names stay small.
+// The number of a vertical by its name, which is the next field and becomes the last one. Not inlined, so
+// that the readers of names stay small.
 #[inline(never)]
-fn vertical_by(last: &mut Option<Found>, schema: &Schema, name: Word) -> Option<u16>
-    requires found { IsFoundBy (vertical_no schema.now) last.old }
-    requires named { is_name name ≡ true }
-    ensures number { result ≡ vertical_no schema.now name }
-    ensures within { IfSome result (λ n. n < length schema.now.verticals) }
+fn vertical_by(
+    last: &mut Option<Found>,
+    schema: &Schema,
+    fields: &mut LineFields<'_>,
+) -> Result<Option<u16>, LineFault>
+    requires { IsFoundBy (vertical_no schema.now) last.old }
+    ensures number { TakesAs (number_by (vertical_no schema.now)) fields.old fields.new result }
+    ensures within { IfOk result (λ number.
+        IfSome number (λ n. n < length schema.now.verticals)) }
     ensures kept { IsFoundBy (vertical_no schema.now) last.new }
 {
-    let number = schema.vertical_no(&name)?;
+    let name = fields.name()?;
+    let Some(number) = schema.vertical_no(&name) else {
+        return Ok(None);
+    };
     *last = Some(Found { name, number });
-    Some(number)
+    Ok(Some(number))
 }
 
 // The number of a type by its name, which becomes the last one.
