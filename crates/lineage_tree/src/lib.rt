@@ -7,7 +7,7 @@ mod holds;
 mod lineage;
 
 pub use book::{LineageBook, Verdicts};
-pub use lineage::{Lineage, RawHit};
+pub use lineage::{HitRows, Lineage, RawHit};
 
 #[cfg(test)]
 mod tests;

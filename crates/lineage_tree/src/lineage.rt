@@ -1,4 +1,4 @@
-use uni_base::{DocKey, Held};
+use uni_base::{DocKey, Held, Rows};
 
 /// Lists of edges, as a tree. Contracts see it by `tree_of`.
 #[derive(Drop)]
@@ -19,3 +19,6 @@ pub struct RawHit {
     pub key: DocKey,
     pub lineage: Lineage,
 }
+
+/// Hits in rank order, each with the tree of its lineages.
+pub type HitRows = Rows<RawHit>;
