@@ -1,0 +1,4 @@
+pub mod Laws
+pub mod Occurring
+pub mod PrefixCursors
+pub mod PrefixWords
