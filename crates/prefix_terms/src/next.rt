@@ -1,5 +1,4 @@
-ghost use Rattle.std.specs.Prelude.{◌≡◌, ◌+◌, ◌&&◌, length, false};
-ghost use Rattle.std.specs.List.{list_any};
+ghost use Rattle.std.specs.Prelude.{◌≡◌, ◌+◌, length, false};
 ghost use Rattle.layer_stack.specs.Spans.{earlier};
 ghost use Rattle.layer_stack.specs.Words.{IsWordFrom, is_word_before};
 ghost use Rattle.uni_meaning.specs.Prefixes.{begins_with};
@@ -44,8 +43,8 @@ fn begins_with(word: &Word, from: &Word) -> bool
     word.bytes().starts_with(from.bytes())
 }
 
-// The least such word that begins so. Words that begin so stand together, from the beginning itself
-// on, so the search is over at the first other one.
+// The least such word that begins so. Words that begin so stand together, from the beginning itself on, so
+// where the least word of all does not begin so, none is left.
 pub(crate) fn next_word<L: Ledger>(
     stack: &Stack,
     type_no: u16,

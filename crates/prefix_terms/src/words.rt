@@ -30,8 +30,8 @@ fn has_posting(alloc: Global, stack: &Stack, type_no: u16, word: &Word) -> Resul
 
 /// The keys of a prefix term: the words that begin with a given one and under which the stack has a
 /// posting of the type, each once, in the order of their bytes. Each word with that beginning that
-/// occurs in some layer, if only among its deletes, costs one step for each layer, and the end of
-/// the search one more for each.
+/// occurs in some layer, if only among its deletes, costs one step for each layer, and so does the
+/// end of the search.
 pub fn words_with<L: Ledger>(
     alloc: Global,
     stack: &Stack,
