@@ -1,4 +1,4 @@
-ghost use Rattle.std.specs.Prelude.{◌≡◌, ◌++◌, T, map, IfOk, OnOk};
+ghost use Rattle.std.specs.Prelude.{◌≡◌, ◌≤◌, ◌^◌, ◌++◌, T, map, IfOk, OnOk};
 ghost use Rattle.std.specs.FinMap as finite;
 ghost use Rattle.std.specs.FinMap.{is_sorted};
 ghost use Rattle.std.specs.Ordering.{nat_cmp};
@@ -66,7 +66,8 @@ impl EntityLayer {
 
     /// The number of its removals and puts.
     pub fn entries(&self) -> u64
-        ensures { result ≡ entity_entries self.now }
+        ensures entries { result ≡ entity_entries self.now }
+        ensures few { result ≤ 2 ^ 62 }
     {
         self.deletes.len() as u64 + self.puts.len() as u64
     }

@@ -72,13 +72,13 @@ impl ShardIndex {
     }
 
     /// The number of the entries of the layer at a place, the oldest being 0.
-    pub fn layer_entries(&self, i: usize) -> u128
+    pub fn layer_entries(&self, i: usize) -> u64
         requires { i < length self.now.0 }
         ensures { option_map entries (slice_get self.now.0 i) ≡ Some result }
     {
-        self.entities.layer(i).entries() as u128
-            + self.postings.layer(i).entries() as u128
-            + self.forward.layer(i).entries() as u128
+        self.entities.layer(i).entries()
+            + self.postings.layer(i).entries()
+            + self.forward.layer(i).entries()
     }
 
     /// The rank of an entity. None exactly where the shard has no such entity.

@@ -70,12 +70,10 @@ impl ShardLayer {
         })
     }
 
-    /// The number of the entries of its three parts. Its sum is exact, so it has 128 bits.
-    pub fn entries(&self) -> u128
+    /// The number of the entries of its three parts.
+    pub fn entries(&self) -> u64
         ensures { result ≡ entries self.now }
     {
-        self.entities.entries() as u128
-            + self.postings.entries() as u128
-            + self.forward.entries() as u128
+        self.entities.entries() + self.postings.entries() + self.forward.entries()
     }
 }

@@ -23,7 +23,7 @@ const BATCH: &[u8] =
 
 // The entries of the layers: none of even users; of odd ones a put and a removal of entities, the two
 // postings of user 5 deleted and put, and that of user 3 deleted; of photos a posting deleted, and a record.
-const ENTRIES: [u128; 3] = [0, 7, 2];
+const ENTRIES: [u64; 3] = [0, 7, 2];
 
 fn schema(alloc: Global) -> Result<Schema, Fail> {
     let mut header = HeaderReader::new(alloc, Limits::standard());

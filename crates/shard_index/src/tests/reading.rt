@@ -108,7 +108,7 @@ fn has_entries(index: &ShardIndex, layer: &[u8], count: &[u8]) -> Option<bool> {
     if layer >= index.layers() {
         return None;
     }
-    Some(number(count)? as u128 == index.layer_entries(layer))
+    Some(number(count)? as u64 == index.layer_entries(layer))
 }
 
 // Whether the oldest layers leave so many entities, and there are as many of postings and records.

@@ -29,5 +29,5 @@ returns c =
     let second : c.deref-2.result.now ≡ p = search rules in
     let third : c.deref-3.result.now ≡ f = search rules in
     let sum : c.entries.result + c.entries-2.result + c.entries-3.result ≡ entries (layer_of e p f) =
-    (λ i. c.entries.ensures i + c.entries-2.ensures i + c.entries-3.ensures i) ∙ (λ i. entries (layer_of (first i) (second i) (third i))) in
+    (λ i. c.entries.ensures.entries i + c.entries-2.ensures.entries i + c.entries-3.ensures.entries i) ∙ (λ i. entries (layer_of (first i) (second i) (third i))) in
     ap (λ v. option_map entries (slice_get v.0 c.args.i)) (sym c.self.view_is) ∙ ap (option_map entries) at ∙ ap Some (sym sum)
