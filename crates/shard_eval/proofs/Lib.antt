@@ -1,0 +1,13 @@
+mod FirstKeys
+mod FoundLists
+mod FoundRanked
+mod HitKeys
+mod HitLists
+mod KeptRanked
+mod OperandMarks
+mod PostingLists
+mod Quotas
+mod ReadOn
+mod ResolvedNodes
+mod SourceLists
+mod TreeRows

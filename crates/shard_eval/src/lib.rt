@@ -1,0 +1,20 @@
+//! What a shard has of a query: its first hits, each with the tree of its lineages.
+#![tactic(auto)]
+
+mod eval;
+mod joins;
+mod kept;
+mod leaf;
+mod list;
+mod operand;
+mod resolved;
+mod shard;
+mod source;
+mod terms;
+#[cfg(test)]
+mod tests;
+mod trees;
+mod witness;
+
+pub use resolved::{InnerHit, ListedHit, Resolved, ResolvedOperand};
+pub use shard::eval_shard;

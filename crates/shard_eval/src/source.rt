@@ -1,0 +1,68 @@
+//! What the operands of a list are.
+ghost use Rattle.std.specs.Prelude.{◌≡◌, All, IfOk, map};
+ghost use Rattle.layer_base.specs.Layers.{stack_table};
+ghost use Rattle.shard_eval.specs.Operands.{keys_in, marks_in, operand_keys};
+ghost use Rattle.shard_eval.specs.Found.{found_keys};
+ghost use Rattle.shard_eval.specs.Sources.{found_by, found_lists, source_marks, AreRanked};
+ghost use Rattle.shard_eval.specs.Witnesses.{found_in};
+ghost use Rattle.uni_base.specs.Cursors.{IsRanked};
+
+use crate::kept::Marked;
+use crate::leaf::Leaf;
+use crate::operand::{HitCursor, Operand};
+use crate::witness::{Postings, Witness};
+use layer_stack::Stack;
+use lineage_tree::HitRows;
+use query_tree::Mark;
+use std::alloc::{AllocError, Global};
+use std::collections::VecDeque;
+
+/// An operand of a list: a term, or the hits of another node.
+#[derive(Drop)]
+pub(crate) enum Source {
+    Term(Leaf),
+    Hits(HitRows),
+}
+
+impl Source {
+    // A cursor over its keys.
+    fn operand<'a>(&'a self, alloc: Global, stack: &'a Stack) -> Result<Operand<'a>, AllocError>
+        requires { IsRanked (found_keys (found_by (stack_table stack.now.0) self.now)) }
+        ensures { IfOk result (λ operand. keys_in operand ≡ found_keys (found_by (stack_table stack.now.0) self.now)) }
+    {
+        match self {
+            Source::Term(leaf) => Ok(Operand::Term(stack.cursor(alloc, &leaf.term())?)),
+            Source::Hits(hits) => Ok(Operand::Hits(HitCursor::over(hits.as_slice()))),
+        }
+    }
+
+    /// The trees of what it finds.
+    pub(crate) fn witness(self, alloc: Global, stack: &Stack) -> Result<Witness<'_>, AllocError>
+        ensures { IfOk result (λ witness. found_in witness ≡ found_by (stack_table stack.now.0) self) }
+    {
+        match self {
+            Source::Term(leaf) => {
+                let cursor = stack.cursor(alloc, &leaf.term())?;
+                Ok(Witness::Term(Postings { leaf, cursor }))
+            }
+            Source::Hits(hits) => Ok(Witness::Hits(VecDeque::from(hits.into_vec()))),
+        }
+    }
+}
+
+/// Cursors over the keys of operands, with their marks.
+pub(crate) fn operands<'a>(
+    alloc: Global,
+    stack: &'a Stack,
+    sources: &'a [(Source, Mark)],
+) -> Result<Vec<Marked<'a>>, AllocError>
+    requires { AreRanked (found_lists (stack_table stack.now.0) sources.now) }
+    ensures keys { IfOk result (λ operands. operand_keys operands.items ≡ map found_keys (found_lists (stack_table stack.now.0) sources.now)) }
+    ensures marks { IfOk result (λ operands. marks_in operands.items ≡ source_marks sources.now) }
+{
+    let mut operands = Vec::new(alloc);
+    for (source, mark) in sources {
+        operands.push((source.operand(alloc, stack)?, *mark))?;
+    }
+    Ok(operands)
+}

@@ -1,0 +1,185 @@
+//! Queries over a shard of ten postings.
+ghost use Rattle.std.specs.Prelude.{◌≡◌, All, IfOk, IfSome, map};
+ghost use Rattle.shard_eval.specs.Kept.{IsShare};
+ghost use Rattle.shard_eval.specs.Resolution.{nodes_of, operand_of, resolution, AreReady, IsReady};
+
+use crate::{InnerHit, Resolved, ResolvedOperand, eval_shard};
+use forward_data::{ForwardDelta, ForwardLayer};
+use layer_stack::{Delta, Layer, TermKey};
+use lineage_tree::HitRows;
+use posting_lists::Posting;
+use query_tree::{ListKind, Mark};
+use shard_index::{EntityDelta, EntityLayer, ShardIndex, ShardLayer};
+use std::alloc::{AllocError, Global};
+use std::process::Abort;
+use std::sync::Arc;
+use std::test::Fail;
+use uni_base::{Audience, DocKey, Fields, Key, Rank, Word, cut_at, read_between, read_id};
+
+// Friends of user 1 and of user 2, and who lives in Rome and in Roma: type, key, rank and id.
+const ROWS: &[u8] =
+    b"0 1 90 2,0 1 90 3,0 1 70 5,0 2 70 5,0 2 50 1,1 rome 90 2,1 rome 70 5,1 rome 60 6,1 rome 10 4,1 roma 90 3";
+
+fn number(text: &[u8]) -> Option<u16> {
+    Some(read_between(text, 0, 65_535)? as u16)
+}
+
+fn key(text: &[u8]) -> Option<Key> {
+    match read_id(text) {
+        Some(id) => Some(Key::Id(id)),
+        None => Some(Key::Word(Word::read(text)?)),
+    }
+}
+
+fn doc_key(rank: &[u8], id: &[u8]) -> Option<DocKey> {
+    Some(DocKey {
+        rank: Rank(number(rank)? as u32),
+        id: read_id(id)?,
+    })
+}
+
+// Puts the posting of a row.
+fn put(delta: &mut Delta, row: &[u8]) -> Option<()> {
+    let mut fields = Fields::of(row);
+    let term = TermKey {
+        type_no: number(fields.next()?)?,
+        key: key(fields.next()?)?,
+    };
+    let key = doc_key(fields.next()?, fields.next()?)?;
+    let audience = Audience::Public;
+    delta.put(term, Posting { key, audience }).ok()
+}
+
+fn postings(alloc: Global) -> Result<Layer, Fail> {
+    let mut delta = Delta::new(alloc);
+    for row in ROWS.split(|byte| *byte == b',') {
+        put(&mut delta, row).ok_or("no row")?;
+    }
+    Ok(Layer::build(alloc, delta)?)
+}
+
+fn index(alloc: Global) -> Result<ShardIndex, Fail> {
+    let entities = Arc::new(alloc, EntityLayer::build(EntityDelta::new(alloc))?)?;
+    let postings = Arc::new(alloc, postings(alloc)?)?;
+    let forward = Arc::new(alloc, ForwardLayer::build(ForwardDelta::new(alloc))?)?;
+    Ok(ShardIndex::of(alloc, ShardLayer::join(entities, postings, forward))?)
+}
+
+// Whether hits are of some entities in order, which commas part.
+fn are_of(hits: &HitRows, ids: &[u8]) -> bool {
+    let mut rest = ids;
+    for hit in hits.as_slice() {
+        let (id, others) = cut_at(rest, b',').unwrap_or((rest, b""));
+        if read_id(id) != Some(hit.key.id) {
+            return false;
+        }
+        rest = others;
+    }
+    rest.is_empty()
+}
+
+// The mark of the first operand of a list.
+fn mark(kind: ListKind) -> Mark
+    ensures { IsShare result }
+{
+    match kind {
+        ListKind::WeakAnd => Mark::Hits(1),
+        ListKind::StrongOr => Mark::Weight(1, 1),
+        ListKind::And | ListKind::Or | ListKind::Difference => Mark::Plain,
+    }
+}
+
+fn friends(id: &[u8]) -> Option<Resolved>
+    ensures { IfSome result (λ query. IsReady (resolution query)) }
+{
+    let key = key(id)?;
+    Some(Resolved::Term { type_no: 0, key })
+}
+
+fn live_in(from: &[u8]) -> Option<Resolved>
+    ensures { IfSome result (λ query. IsReady (resolution query)) }
+{
+    let from = Word::read(from)?;
+    Some(Resolved::Prefix { type_no: 1, from })
+}
+
+fn two(
+    alloc: Global,
+    first: Resolved,
+    mark: Mark,
+    second: Resolved,
+) -> Result<Vec<ResolvedOperand>, AllocError>
+    requires first { IsReady (resolution first) }
+    requires mark { IsShare mark }
+    requires second { IsReady (resolution second) }
+    ensures { IfOk result (λ operands. AreReady (nodes_of (map operand_of operands.items))) }
+{
+    let mut operands = Vec::new(alloc);
+    operands.push(ResolvedOperand { node: first, mark })?;
+    operands.push(ResolvedOperand {
+        node: second,
+        mark: Mark::Plain,
+    })?;
+    Ok(operands)
+}
+
+// Friends of user 1 with those who live in Rome or Roma, under an operator.
+fn listed(alloc: Global, kind: ListKind) -> Result<Resolved, Fail>
+    ensures { IfOk result (λ query. IsReady (resolution query)) }
+{
+    let first = friends(b"1").ok_or("no term")?;
+    let second = live_in(b"rom").ok_or("no term")?;
+    let operands = two(alloc, first, mark(kind), second)?;
+    Ok(match kind {
+        ListKind::And => Resolved::And(operands),
+        ListKind::Or => Resolved::Or(operands),
+        ListKind::Difference => Resolved::Difference(operands),
+        ListKind::WeakAnd => Resolved::WeakAnd(operands),
+        ListKind::StrongOr => Resolved::StrongOr(operands),
+    })
+}
+
+fn finds(rt: &impl Abort, alloc: Global, kind: ListKind, ids: &[u8]) -> Result<(), Fail> {
+    let index = index(alloc)?;
+    let query = listed(alloc, kind)?;
+    let hits = eval_shard(alloc, &index, &query, 9)?;
+    assert!(rt; are_of(&hits, ids));
+    Ok(())
+}
+
+#[test]
+fn lists(rt: HostRuntime) -> Result<(), Fail> {
+    finds(&rt, rt.alloc(), ListKind::And, b"2,3,5")?;
+    finds(&rt, rt.alloc(), ListKind::Or, b"2,3,5,6,4")?;
+    finds(&rt, rt.alloc(), ListKind::Difference, b"")?;
+    finds(&rt, rt.alloc(), ListKind::WeakAnd, b"2,3,5,6")?;
+    finds(&rt, rt.alloc(), ListKind::StrongOr, b"2,3,5")
+}
+
+fn inner(rank: &[u8], id: &[u8], entry: u32) -> Option<InnerHit> {
+    let key = doc_key(rank, id)?;
+    Some(InnerHit { key, entry })
+}
+
+fn friends_of_friends(alloc: Global) -> Result<Resolved, Fail>
+    ensures { IfOk result (λ query. IsReady (resolution query)) }
+{
+    let mut hits = Vec::new(alloc);
+    hits.push(inner(b"90", b"2", 0).ok_or("no hit")?)?;
+    hits.push(inner(b"50", b"1", 1).ok_or("no hit")?)?;
+    Ok(Resolved::Joined {
+        type_no: 0,
+        inner: hits,
+    })
+}
+
+#[test]
+fn a_join(rt: HostRuntime) -> Result<(), Fail> {
+    let index = index(rt.alloc())?;
+    let query = friends_of_friends(rt.alloc())?;
+    let hits = eval_shard(rt.alloc(), &index, &query, 9)?;
+    assert!(rt; are_of(&hits, b"2,3,5,1"));
+    let first = eval_shard(rt.alloc(), &index, &query, 2)?;
+    assert!(rt; are_of(&first, b"2,3"));
+    Ok(())
+}
