@@ -13,12 +13,16 @@ use uni_base::{Audience, Limits, read_id};
 use uni_schema::{HeaderReader, Schema};
 use uni_table::Table;
 
+mod alike;
+mod layered;
+mod noisy;
 mod reading;
+mod scripts;
 
 // Users in two shards and photos in one: friends, where users live, the photos that they are tagged in,
-// and the users whom a photo shows. A bar ends a line.
+// the users whom a photo shows, and those whom a user has blocked. A bar ends a line.
 const HEADER: &[u8] =
-    b"unicorn 2|vertical user 2 2|vertical photo 1 1|type friend user user both index|type lives word user target index|type tagged user photo source index|type shows photo user source forward|begin";
+    b"unicorn 2|vertical user 2 2|vertical photo 1 1|type friend user user both index|type lives word user target index|type tagged user photo source index|type shows photo user source forward|type blocked user user source index|deny blocked|begin";
 
 // Eight entities, and twelve edges.
 const ROWS: &[u8] =
@@ -68,9 +72,13 @@ fn is_put(table: &mut Table, line: &[u8]) -> bool {
     table.put(&command).is_ok()
 }
 
-fn small(rt: &impl Abort, alloc: Global) -> Result<Table, Fail> {
+fn nothing(alloc: Global) -> Result<Table, Fail> {
     let schema = Arc::new(alloc, schema(alloc)?)?;
-    let mut table = Table::new(alloc, schema, Limits::standard());
+    Ok(Table::new(alloc, schema, Limits::standard()))
+}
+
+fn small(rt: &impl Abort, alloc: Global) -> Result<Table, Fail> {
+    let mut table = nothing(alloc)?;
     for line in ROWS.split(|byte| *byte == b'|') {
         assert!(rt; is_put(&mut table, line));
     }

@@ -20,7 +20,7 @@ fn number(text: &[u8]) -> Option<u16> {
 }
 
 // An id, or a word that spells none.
-fn key(text: &[u8]) -> Option<Key> {
+pub(super) fn key(text: &[u8]) -> Option<Key> {
     match read_id(text) {
         Some(id) => Some(Key::Id(id)),
         None => Some(Key::Word(Word::read(text)?)),
