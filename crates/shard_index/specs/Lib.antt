@@ -7,6 +7,7 @@ pub mod Joined
 pub mod Laws
 pub mod Places
 pub mod Rows
+pub mod Runs
 pub mod Shards
 pub mod Split
 pub mod Touched

@@ -13,6 +13,7 @@ mod merge;
 mod places;
 mod ranks;
 mod records;
+mod runs;
 mod stacks;
 #[cfg(test)]
 mod tests;
