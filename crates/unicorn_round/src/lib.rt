@@ -3,7 +3,6 @@
 
 mod answering;
 mod checker;
-mod chooser;
 pub mod examples;
 mod gate;
 mod header;
@@ -19,9 +18,9 @@ mod status;
 mod tests;
 mod write;
 
-pub use chooser::{Chooser, FirstChooser, TurnChooser};
 pub use gate::{Gate, OpenGate, Point};
 pub use modes::{check_script, run_plain, serve_rounds};
 pub use program::run;
+pub use replica_pick::{Chooser, FirstChooser, TurnChooser};
 pub use stacks::StackCover;
 pub use status::Status;

@@ -7,11 +7,11 @@ ghost use Rattle.unicorn_round.specs.Outcome.{Ran};
 ghost use Rattle.unicorn_round.specs.Statuses.{ReadFaultsFit, WriteFaultsFit};
 
 use crate::checker::Checker;
-use crate::chooser::Chooser;
 use crate::gate::Gate;
 use crate::script::answer_script;
 use crate::serial::Serial;
 use crate::status::Status;
+use replica_pick::Chooser;
 use std::alloc::Global;
 use std::sync::Wait;
 use std::thread::Threads;
