@@ -4,7 +4,6 @@
 mod answering;
 mod checker;
 pub mod examples;
-mod gate;
 mod header;
 pub mod laws;
 mod modes;
@@ -18,9 +17,9 @@ mod status;
 mod tests;
 mod write;
 
-pub use gate::{Gate, OpenGate, Point};
 pub use modes::{check_script, run_plain, serve_rounds};
 pub use program::run;
+pub use rack_aggregate::{Gate, OpenGate, Point};
 pub use replica_pick::{Chooser, FirstChooser, TurnChooser};
 pub use stacks::StackCover;
 pub use status::Status;

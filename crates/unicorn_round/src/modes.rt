@@ -7,10 +7,10 @@ ghost use Rattle.unicorn_round.specs.Outcome.{Ran};
 ghost use Rattle.unicorn_round.specs.Statuses.{ReadFaultsFit, WriteFaultsFit};
 
 use crate::checker::Checker;
-use crate::gate::Gate;
 use crate::script::answer_script;
 use crate::serial::Serial;
 use crate::status::Status;
+use rack_aggregate::Gate;
 use replica_pick::Chooser;
 use std::alloc::Global;
 use std::sync::Wait;

@@ -9,10 +9,10 @@ ghost use Rattle.unicorn_words.specs.Asked.{AreAsked};
 ghost use Rattle.unicorn_words.specs.CommandLine.{is_taken};
 ghost use Rattle.unicorn_words.specs.declared.words.Settings.{Settings};
 
-use crate::gate::Gate;
 use crate::modes::{check_script, run_plain, serve_rounds};
 use crate::status::Status;
 use crate::write::write_all;
+use rack_aggregate::Gate;
 use replica_pick::Chooser;
 use std::alloc::Global;
 use std::sync::Wait;
