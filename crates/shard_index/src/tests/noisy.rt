@@ -4,6 +4,7 @@ ghost use Rattle.std.specs.Prelude.{◌<◌};
 use super::layered::LayeredShard;
 use super::{is_put, nothing};
 use std::alloc::Global;
+use std::process::Abort;
 use std::test::Fail;
 use uni_table::Table;
 
@@ -120,16 +121,28 @@ fn is_list_read(alloc: Global, table: &mut Table, case: u64, number: u16) -> Opt
     Some(true)
 }
 
-// 300 lists of ten batches: ranks change, users and photos go and may come back as the other, edges end,
-// and photos show nobody any more.
-#[test]
-fn layers_read_like_a_table(rt: HostRuntime) -> Result<(), Fail> {
+// 300 lists of ten batches, over a shard: ranks change, users and photos go and may come back as the
+// other, edges end, and photos show nobody any more.
+fn follow_lists(rt: &impl Abort, alloc: Global, number: u16) -> Result<(), Fail> {
     for case in 0..300u64 {
-        for number in 0..3 {
-            let mut table = nothing(rt.alloc())?;
-            let is_read = is_list_read(rt.alloc(), &mut table, case, number) == Some(true);
-            assert!(rt; is_read, "case {case} in shard {number}");
-        }
+        let mut table = nothing(alloc)?;
+        let is_read = is_list_read(alloc, &mut table, case, number) == Some(true);
+        assert!(rt; is_read, "case {case}");
     }
     Ok(())
+}
+
+#[test]
+fn even_users_by_layers(rt: HostRuntime) -> Result<(), Fail> {
+    follow_lists(&rt, rt.alloc(), 0)
+}
+
+#[test]
+fn odd_users_by_layers(rt: HostRuntime) -> Result<(), Fail> {
+    follow_lists(&rt, rt.alloc(), 1)
+}
+
+#[test]
+fn photos_by_layers(rt: HostRuntime) -> Result<(), Fail> {
+    follow_lists(&rt, rt.alloc(), 2)
 }
