@@ -10,4 +10,5 @@ mod Quotas
 mod ReadOn
 mod ResolvedNodes
 mod SourceLists
+mod TreeLineages
 mod TreeRows

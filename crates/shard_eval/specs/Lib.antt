@@ -1,6 +1,8 @@
 pub mod Found
 pub mod Kept
+pub mod Laws
 pub mod Operands
+pub mod PlanTrees
 pub mod Resolution
 pub mod Rows
 pub mod Sources

@@ -4,6 +4,7 @@
 mod eval;
 mod joins;
 mod kept;
+pub mod laws;
 mod leaf;
 mod list;
 mod operand;

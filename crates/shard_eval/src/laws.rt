@@ -1,0 +1,7 @@
+//! What follows from the definitions, as contracts of functions without a body.
+ghost use Rattle.shard_eval.specs.Laws.{TreesAreExact};
+
+/// The tree of an entity under a plan stands for exactly its lineages over the table, in their order.
+pub fn trees_are_exact()
+    ensures { TreesAreExact }
+{}
