@@ -7,7 +7,8 @@ use Rattle.uni_base.specs.Walks.{Quota, Unmarked, Count, Weight, Walker, has_sha
 use Rattle.weak_strong.specs.Rules.{walkers}
 use Rattle.query_tree.specs.declared.kind.ListKind.TheVariants.{StrongOr, WeakAnd}
 use Rattle.query_tree.specs.declared.query.Mark.{Mark}
-use Rattle.shard_eval.specs.Kept.{bare, counters, kept, quota_of, weight_alone}
+use Rattle.shard_eval.specs.Kept.{bare, counters, kept, weight_alone}
+use Rattle.uni_meaning.specs.Hits.{quota_of}
 
 -- operands whose quotas are seen in another way
 abbrev pub seen_by : (Quota → Quota) → Walker DocKey → Walker DocKey

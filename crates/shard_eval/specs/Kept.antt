@@ -7,16 +7,11 @@ use Rattle.query_tree.specs.declared.query.Mark.TheVariants as marks
 use Rattle.uni_base.specs.declared.entity.DocKey.{DocKey}
 use Rattle.uni_base.specs.KeySets.{united}
 use Rattle.uni_base.specs.Walks.{Quota, Unmarked, Count, Weight, weak_walk, strong_walk}
+use Rattle.uni_meaning.specs.Hits.{quota_of}
 use Rattle.weak_strong.specs.Rules.{walkers}
 use Rattle.set_cursors.specs.Filters.{common, difference}
 use Rattle.lineage_tree.specs.Tree.{Tree, all_of, any_of, no_members, forest_of}
 use Rattle.shard_eval.specs.Found.{Found, found_keys, trees_at}
-
--- what an operand's mark lets a walk count
-abbrev pub quota_of : Mark → Quota
-quota_of marks.Plain = Unmarked
-quota_of (marks.Hits left) = Count left
-quota_of (marks.Weight n d) = Weight n d
 
 -- a mark that is a weight is a share: 1 to 1000 thousandths at most, and no more than the whole
 abbrev pub IsShare : Mark → Type 0

@@ -1,6 +1,7 @@
 pub mod Found
 pub mod Kept
 pub mod Laws
+pub mod Meant
 pub mod Operands
 pub mod PlanTrees
 pub mod Resolution

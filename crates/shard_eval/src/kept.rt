@@ -1,6 +1,7 @@
 //! The keys that an operator keeps of its operands' keys.
 ghost use Rattle.std.specs.Prelude.{◌≡◌, ◌≤◌, ◌<◌, ◌++◌, All, IfOk, length, map, take};
-ghost use Rattle.shard_eval.specs.Kept.{alone, bare, is_full, kept, quota_of, up_to, weight_alone, IsShare};
+ghost use Rattle.shard_eval.specs.Kept.{alone, bare, is_full, kept, up_to, weight_alone, IsShare};
+ghost use Rattle.uni_meaning.specs.Hits.{quota_of};
 ghost use Rattle.shard_eval.specs.Operands.{keys_in, marks_in, operand_keys};
 ghost use Rattle.weak_strong.specs.Marks.{strong_quota, weak_quota};
 

@@ -1,6 +1,7 @@
 use Rattle.std.proofs.Common.{◌≡◌, ◌++◌, map}
 use Rattle.std.specs.Vec.Iter.{into_iter_items}
-use Rattle.shard_eval.specs.Kept.{weight_alone, quota_of}
+use Rattle.shard_eval.specs.Kept.{weight_alone}
+use Rattle.uni_meaning.specs.Hits.{quota_of}
 use Rattle.shard_eval.specs.Operands.{keys_in, marks_in, operand_keys}
 use Rattle.weak_strong.specs.Marks.{strong_quota}
 use Rattle.shard_eval.proofs.kept.strong_operands.Given as goal
