@@ -293,10 +293,5 @@ fn front_word(text: &[u8]) -> Option<(Word, &[u8])>
         (λ parts. (is_word parts.0 ≡ true) × (parts.0 ≡ take_while is_word_byte text.now)
         × (text.now ≡ parts.0 ++ parts.1.now)) }
 {
-    let Some((word, after)) = Word::read_front(text) else {
-        return None;
-    };
-    // `bytes` says that the word is one, which `read_front` leaves out.
-    let _ = word.bytes();
-    Some((word, after))
+    Word::read_front(text)
 }

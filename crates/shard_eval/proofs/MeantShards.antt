@@ -31,6 +31,7 @@ use Rattle.uni_table.specs.Ranked.{ranked, ranked_all}
 use Rattle.uni_table.specs.TableState.{IsKept}
 use Rattle.uni_table.proofs.Sharded.{shards_part}
 use Rattle.uni_meaning.specs.Hits.{leads_to, target_of, vertical_of}
+use Rattle.uni_meaning.proofs.Typed.{list_of, target_is, vertical_is}
 use Rattle.shard_index.specs.Laws.{posting_to, leads_to as is_indexed_to}
 use Rattle.shard_index.specs.Shards.{shard_rows}
 use Rattle.shard_index.proofs.Exact.{rows_are_exact}
@@ -48,21 +49,6 @@ use Rattle.shard_eval.proofs.MeantTerms.{postings_meant}
 use Rattle.shard_eval.proofs.RankedShards.{ranked_ranked}
 
 module _ (schema : Declarations) where
-  target_is : (number : ℕ) (store : Store) (origin : Origin) (vertical : ℕ) → IsType schema number store origin vertical → target_of schema number ≡ vertical
-  target_is number store origin vertical is = ap (λ o. option_map_or (λ type_def. type_def.target) o 0) is.declared ∙ is.leads
-
-  -- a typed plan is of the vertical that its types lead to, and so are its operands
-  vertical_is : (plan : Plan) (vertical : ℕ) → IsOf schema plan vertical → vertical_of schema plan ≡ vertical
-  vertical_is (term_plan number key) vertical is = target_is number _ is.0 vertical is.1.0
-  vertical_is (prefix_plan number from) vertical is = target_is number _ _ vertical is
-  vertical_is (list_plan kind no_plans) vertical is = absurd is
-  vertical_is (list_plan kind (with_plan plan mark others)) vertical is = vertical_is plan vertical is.0
-  vertical_is (join_plan kind number limit plan) vertical is = target_is number _ _ vertical is.1.0
-
-  list_of : (kind : ListKind) (plans : Plans) (vertical : ℕ) → IsOf schema (list_plan kind plans) vertical → AreOf schema plans vertical
-  list_of kind no_plans vertical is = absurd is
-  list_of kind (with_plan plan mark others) vertical is = (is.0, is.1)
-
   -- its edges are in the index of the vertical
   is_led : (number : ℕ) (origin : Origin) (vertical : ℕ) → IsType schema number Index origin vertical → is_indexed_to schema vertical number ≡ true
   is_led number origin vertical is =

@@ -1,4 +1,4 @@
-ghost use Rattle.std.specs.Prelude.{◌≡◌, ◌≤◌, ◌++◌, true, false, length, Some, None, if◌then◌else◌, MatchOption};
+ghost use Rattle.std.specs.Prelude.{◌≡◌, ◌≤◌, ◌++◌, true, false, length, Some, None, if◌then◌else◌, IfSome, MatchOption};
 ghost use Rattle.std.specs.List.{list_all, prefix_len, take_while};
 ghost use Rattle.uni_base.specs.Padding.{padded};
 ghost use Rattle.std.proofs.Common.{rules};
@@ -53,8 +53,9 @@ impl Word {
     /// The word that a text begins with, as far as its bytes belong to words, and the text after it. None
     /// where that is no word: it is empty, or of more than 32 bytes.
     pub fn read_front(text: &[u8]) -> Option<(Word, &[u8])>
-        ensures { MatchOption result (is_word (take_while is_word_byte text.now) ≡ false)
+        ensures front { MatchOption result (is_word (take_while is_word_byte text.now) ≡ false)
             (λ parts. (parts.0 ≡ take_while is_word_byte text.now) × (text.now ≡ parts.0 ++ parts.1.now)) }
+        ensures word { IfSome result (λ parts. is_word parts.0 ≡ true) }
     {
         let len = word_bytes(text);
         if len == 0 || len > 32 {

@@ -18,7 +18,7 @@ mod SeenNodes
 mod SetStandings
 mod StandingOf
 mod TermCuts
-mod Typed
+pub mod Typed
 pub mod Unsharded
 mod WalkStandings
 mod Walked

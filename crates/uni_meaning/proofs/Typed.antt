@@ -30,7 +30,8 @@ same_number : (a b : ℕ) → (a == b) ≡ true → a ≡ b
 same_number a b e = grind (arith, nat_tests)
 
 module _ (schema : Declarations) where
-  target_is : (number : ℕ) (store : Store) (origin : Origin) (vertical : ℕ) → IsType schema number store origin vertical → target_of schema number ≡ vertical
+  -- the target of a declared type
+  pub target_is : (number : ℕ) (store : Store) (origin : Origin) (vertical : ℕ) → IsType schema number store origin vertical → target_of schema number ≡ vertical
   target_is number store origin vertical is = ap (λ o. option_map_or (λ type_def. type_def.target) o 0) is.declared ∙ is.leads
 
   -- a typed plan is of the vertical that its types lead to
