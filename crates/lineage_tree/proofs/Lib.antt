@@ -1,7 +1,7 @@
 mod AcceptedLemmas
 mod AddedLemmas
-mod EntryLemmas
-mod FirstLemmas
+pub mod EntryLemmas
+pub mod FirstLemmas
 mod HoldingLemmas
 mod Sizes
 mod TreeLemmas

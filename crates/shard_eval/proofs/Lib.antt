@@ -1,23 +1,23 @@
 mod FirstKeys
 mod FoundLists
-mod FoundRanked
+pub mod FoundRanked
 mod HitKeys
 mod HitLists
-mod HitsWithin
+pub mod HitsWithin
 mod KeptRanked
 mod KeptMeant
 mod MeantJoins
 mod MeantLists
 mod MeantNodes
 mod MeantPrefixes
-mod MeantShards
+pub mod MeantShards
 mod MeantTerms
 mod OperandMarks
 mod PostingLists
 mod Quotas
-mod RankedShards
+pub mod RankedShards
 mod ReadOn
-mod ResolvedNodes
+pub mod ResolvedNodes
 mod SourceLists
-mod TreeLineages
+pub mod TreeLineages
 mod TreeRows

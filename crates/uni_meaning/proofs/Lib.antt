@@ -2,19 +2,19 @@ pub mod Begins
 pub mod Combined
 mod Cuts
 pub mod Exact
-mod FirstFound
+pub mod FirstFound
 pub mod Firsts
 pub mod Led
 pub mod Light
 mod ListStandings
-mod Members
-mod PlaceStandings
+pub mod Members
+pub mod PlaceStandings
 mod PrefixStandings
 pub mod Prefixed
 mod Arrivals
 mod AtPlaces
 pub mod Stands
-mod SeenNodes
+pub mod SeenNodes
 mod SetStandings
 mod StandingOf
 mod TermCuts
