@@ -18,6 +18,7 @@ mod Quotas
 pub mod RankedShards
 mod ReadOn
 pub mod ResolvedNodes
+mod SmallJoins
 mod SourceLists
 pub mod TreeLineages
 mod TreeRows

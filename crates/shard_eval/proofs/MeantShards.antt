@@ -65,7 +65,8 @@ module _ (schema : Declarations) (limits : Limits) (table : Contents) (book : �
   rank : IsRanked entities
   rank = ranked_ranked schema limits table vertical shard kept
 
-  own_shard : (x : DocKey) → has_key entities x ≡ true → shard_of schema vertical x.id ≡ shard
+  -- an entity of the shard is in the shard of its id
+  pub own_shard : (x : DocKey) → has_key entities x ≡ true → shard_of schema vertical x.id ≡ shard
   own_shard x there =
       eqb-true (shard_of schema vertical x.id) shard
       (second_true (has_key (ranked_all table vertical) x) (shard_of schema vertical x.id == shard)

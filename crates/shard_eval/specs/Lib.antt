@@ -6,5 +6,6 @@ pub mod Operands
 pub mod PlanTrees
 pub mod Resolution
 pub mod Rows
+pub mod Sizes
 pub mod Sources
 pub mod Witnesses

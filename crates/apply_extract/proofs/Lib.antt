@@ -1,0 +1,17 @@
+mod Asked
+mod Cuts
+mod EdgeLists
+mod Entries
+mod InRankOrder
+mod InShards
+mod JoinPlans
+mod Lists
+mod NotedHits
+mod Parts
+mod QueryTypes
+mod ReadRecords
+mod ReadVersions
+mod Shares
+mod ShownHits
+mod SortedPostings
+mod Tops

@@ -1,0 +1,9 @@
+pub mod Answered
+pub mod Asking
+pub mod Booked
+pub mod Conditions
+pub mod Edges
+pub mod Hits
+pub mod Laws
+pub mod Parts
+pub mod Shown

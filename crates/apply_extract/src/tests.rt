@@ -1,0 +1,4 @@
+//! What versions of small tables answer, against what the definitions say of the tables.
+mod asked;
+mod noisy;
+mod rows;

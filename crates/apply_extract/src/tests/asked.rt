@@ -1,0 +1,148 @@
+//! Tables of a few lines, and questions that are asked of their versions in every way.
+ghost use Rattle.std.specs.Prelude.{◌≡◌, IfSome};
+ghost use Rattle.apply_extract.specs.Conditions.{IsAsked, IsStanding};
+ghost use Rattle.query_check.specs.Plan.{seen};
+
+use crate::{answer, answer_here};
+use feed_reader::{FeedLine, read_feed_line};
+use query_check::{Checked, check};
+use query_reader::read_query;
+use rack_aggregate::OpenGate;
+use replica_pick::{Chooser, FirstChooser, TurnChooser};
+use shard_index::Version;
+use std::alloc::Global;
+use std::sync::{Arc, Wait};
+use std::test::Fail;
+use std::thread::Threads;
+use uni_base::{EntityId, Limits, cut_at, read_between, read_id};
+use uni_meaning::{Hit, Reply, plain_answer};
+use uni_schema::{HeaderReader, Schema};
+use uni_table::Table;
+
+// Always the last replica.
+struct LastChooser;
+
+impl Chooser for LastChooser {
+    fn pick(&self, _vertical: u16, _shard: u32, _turn: u64, replicas: u32) -> u32 {
+        replicas - 1
+    }
+}
+
+// The schema of a header whose lines bars part.
+fn schema(alloc: Global, header: &[u8]) -> Option<Schema> {
+    let mut reader = HeaderReader::new(alloc, Limits::standard());
+    let mut rest = header;
+    for line_no in 1..=20 {
+        let (line, others) = cut_at(rest, b'|').unwrap_or((rest, b""));
+        match reader.take(line_no, line) {
+            Ok(true) => return Some(reader.schema()),
+            Ok(false) => rest = others,
+            Err(_) => return None,
+        }
+    }
+    None
+}
+
+/// A table without rows.
+pub(super) fn nothing(alloc: Global, header: &[u8]) -> Result<Table, Fail> {
+    let Some(schema) = schema(alloc, header) else {
+        return Err("no header")?;
+    };
+    Ok(Table::new(alloc, Arc::new(alloc, schema)?, Limits::standard()))
+}
+
+/// Whether a line is a change that the table takes.
+pub(super) fn is_put(table: &mut Table, line: &[u8]) -> bool {
+    let Ok(FeedLine::Change(command)) = read_feed_line(table.schema(), line) else {
+        return false;
+    };
+    table.put(&command).is_ok()
+}
+
+// The query of a text under a schema.
+fn query(alloc: Global, schema: &Schema, text: &[u8]) -> Option<Checked>
+    ensures { IfSome result (λ query. IsAsked schema.now (seen query)) }
+{
+    let limits = Limits::standard();
+    if text.len() > 4096 {
+        return None;
+    }
+    let Ok(query) = read_query(alloc, &limits, 2, text) else {
+        return None;
+    };
+    match check(alloc, schema, &limits, &query) {
+        Ok(query) => Some(query),
+        Err(_) => None,
+    }
+}
+
+// Whether two hits are of one entity, by the same edges.
+fn is_same(hit: &Hit, other: &Hit) -> bool {
+    hit.key == other.key && hit.lineage.as_slice() == other.lineage.as_slice()
+}
+
+// Whether two replies are the same.
+fn are_same(reply: &Reply, other: &Reply) -> bool {
+    let hits = reply.hits.as_slice();
+    let others = other.hits.as_slice();
+    reply.publishes == other.publishes
+        && hits.len() == others.len()
+        && hits
+            .iter()
+            .zip(others)
+            .all(|(hit, other)| is_same(hit, other))
+}
+
+/// A question: who asks, for how many hits, and what.
+#[derive(Drop)]
+pub(super) struct Question<'a> {
+    pub viewer: EntityId,
+    pub limit: u32,
+    pub text: &'a [u8],
+}
+
+/// Reads `VIEWER LIMIT QUERY`.
+pub(super) fn question(text: &[u8]) -> Option<Question<'_>> {
+    let (viewer, rest) = cut_at(text, b' ')?;
+    let (limit, text) = cut_at(rest, b' ')?;
+    Some(Question {
+        viewer: read_id(viewer)?,
+        limit: read_between(limit, 1, 5000)? as u32,
+        text,
+    })
+}
+
+/// Whether a question has one and the same reply of a table by the definitions, and of its version on one
+/// thread and on several, whichever replicas are read.
+pub(super) fn is_answered(
+    rt: &(impl Threads + Wait + Sync),
+    alloc: Global,
+    table: &Table,
+    question: &Question<'_>,
+) -> Option<bool> {
+    let version = Version::of_table(alloc, table, 1).ok()?;
+    let query = query(alloc, table.schema(), question.text)?;
+    let Question { viewer, limit, .. } = question;
+    let due = plain_answer(alloc, table, 1, &query, *viewer, *limit).ok()?;
+    let first = answer_here(alloc, &version, &query, *viewer, *limit, 33, &FirstChooser).ok()?;
+    let turn = answer_here(alloc, &version, &query, *viewer, *limit, 33, &TurnChooser).ok()?;
+    let last = answer_here(alloc, &version, &query, *viewer, *limit, 34, &LastChooser).ok()?;
+    let mut same = are_same(&due, &first) && are_same(&due, &turn) && are_same(&due, &last);
+    for workers in [1_u32, 2, 64] {
+        let reply = answer(
+            rt,
+            alloc,
+            &version,
+            &query,
+            *viewer,
+            *limit,
+            33,
+            workers,
+            &TurnChooser,
+            &OpenGate,
+        )
+        .ok()?;
+        same &= are_same(&due, &reply);
+    }
+    Some(same)
+}

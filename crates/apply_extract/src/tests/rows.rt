@@ -1,0 +1,82 @@
+//! Questions over a small table, each asked in every way.
+use super::asked::{is_answered, is_put, nothing, question};
+use std::alloc::Global;
+use std::process::Abort;
+use std::sync::Wait;
+use std::test::Fail;
+use std::thread::Threads;
+use uni_table::Table;
+
+// Users in two shards of two replicas, and photos in one: friends, where users live, the photos that they
+// are tagged in, the users whom a photo shows, and those whom a user blocks. A bar ends a line.
+pub(super) const HEADER: &[u8] =
+    b"unicorn 2|vertical user 2 2|vertical photo 1 1|type friend user user both index|type lives word user target index|type tagged user photo source index|type shows photo user source forward|type blocked user user source index|deny blocked|begin";
+
+// Eight entities, and twelve edges.
+const ROWS: &[u8] =
+    b"entity user 1 50|entity user 2 90|entity user 3 90|entity user 4 10|entity user 5 70|entity user 6 60|entity photo 101 5|entity photo 102 9|edge friend 1 2 public|edge friend 1 3 public|edge friend 1 5 public|edge lives rome 2 public|edge lives rome 4 public|edge lives rome 5 public|edge lives rome 6 public|edge tagged 2 101 public|edge tagged 3 102 public|edge tagged 5 102 public|edge shows 102 4 public|edge shows 102 1 public";
+
+// A step is a change, or `ask` and a question.
+fn is_met(
+    rt: &(impl Threads + Wait + Sync),
+    alloc: Global,
+    table: &mut Table,
+    step: &[u8],
+) -> bool {
+    match step.strip_prefix(b"ask ") {
+        Some(text) => match question(text) {
+            Some(question) => is_answered(rt, alloc, table, &question) == Some(true),
+            None => false,
+        },
+        None => is_put(table, step),
+    }
+}
+
+fn follow(
+    rt: &(impl Abort + Threads + Wait + Sync),
+    alloc: Global,
+    table: &mut Table,
+    steps: &[u8],
+) {
+    for (number, step) in steps.split(|byte| *byte == b'|').enumerate() {
+        assert!(rt; is_met(rt, alloc, table, step), "at {number}");
+    }
+}
+
+fn answers(
+    rt: &(impl Abort + Threads + Wait + Sync),
+    alloc: Global,
+    steps: &[u8],
+) -> Result<(), Fail> {
+    let mut table = nothing(alloc, HEADER)?;
+    follow(rt, alloc, &mut table, ROWS);
+    follow(rt, alloc, &mut table, steps);
+    Ok(())
+}
+
+const OPERATORS: &[u8] =
+    b"ask 9 10 friend:1|ask 9 10 (and friend:1 lives:rome)|ask 9 10 (difference friend:1 lives:rome)|ask 9 10 (or friend:1 lives:rome)|ask 9 10 (weak-and (term friend:1 :optional-hits 1) lives:rome)|ask 9 10 (strong-or friend:1 (term lives:rome :optional-weight 1/2))|cut friend 1 5|ask 9 10 (weak-and (term friend:1 :optional-hits 1) lives:rome)|edge lives oslo 4 public|ask 9 10 (and (weak-and (term friend:1 :optional-hits 1) lives:rome) (or lives:oslo))|ask 9 10 (weak-and (term friend:1 :optional-weight 1/2) lives:rome)|entity user 7 80|edge friend 1 7 public|ask 9 10 (strong-or friend:1 (term lives:rome :optional-weight 1/2))|ask 9 10 lives:r*|ask 9 10 (and friend:1 lives:o*)|ask 9 10 (or lives:r* lives:o*)|ask 9 10 lives:x*|ask 9 10 friend:77";
+
+// A joining edge that is hidden, then each whole lineage of 102, a cut that counts what is hidden, and an
+// owner.
+const JOINS: &[u8] =
+    b"ask 9 10 (apply tagged: friend:1)|ask 9 10 (apply tagged: friend:1 :limit 1)|ask 9 10 (extract shows: (apply tagged: friend:1))|ask 9 10 (extract shows: (apply tagged: friend:1) :limit 1)|ask 9 10 (and (extract shows: tagged:5) (apply friend: (extract shows: tagged:3)))|edge tagged 3 102 only|ask 9 10 (apply tagged: friend:1)|edge friend 1 5 only|ask 9 10 (apply tagged: friend:1)|edge friend 1 5 public|edge tagged 5 102 only|ask 9 10 (apply tagged: friend:1)|ask 9 1 (apply tagged: friend:1)|ask 3 1 (apply tagged: friend:1)|ask 9 10 (apply friend: (apply friend: (apply friend: (apply friend: friend:1))))";
+
+// A circle, a viewer who is denied, ranks that change, and a user who goes. Then a cut at each length.
+const VIEWERS: &[u8] =
+    b"edge friend 5 6 only|edge friend 1 2 in:friend:5|ask 6 10 friend:1|ask 9 10 friend:1|entity user 9 1|edge blocked 3 9 public|ask 9 10 friend:1|ask 1 10 friend:1|entity user 5 95|ask 1 10 friend:1|gone 3|ask 1 10 friend:1|ask 1 1 (or friend:1 lives:rome)|ask 1 2 (or friend:1 lives:rome)|ask 1 3 (or friend:1 lives:rome)|ask 1 4 (or friend:1 lives:rome)|ask 1 5 (or friend:1 lives:rome)|ask 1 5000 (or friend:1 lives:rome)";
+
+#[test]
+fn operators(rt: HostRuntime) -> Result<(), Fail> {
+    answers(&rt, rt.alloc(), OPERATORS)
+}
+
+#[test]
+fn joins(rt: HostRuntime) -> Result<(), Fail> {
+    answers(&rt, rt.alloc(), JOINS)
+}
+
+#[test]
+fn viewers(rt: HostRuntime) -> Result<(), Fail> {
+    answers(&rt, rt.alloc(), VIEWERS)
+}
