@@ -23,8 +23,8 @@ pub fn last_words<K: Ord + Copy, V: Drop>(mut log: Vec<(K, V)>) -> Result<Vec<(K
     Ok(log)
 }
 
-// Whether the keys of rows strictly rise.
-fn rises<K: Ord, V>(rows: &[(K, V)]) -> bool
+/// Whether the keys of rows strictly rise.
+pub fn rises<K: Ord, V>(rows: &[(K, V)]) -> bool
     ensures { result ≡ is_sorted K.cmp rows.now }
 {
     for i in 1..rows.len() {

@@ -8,3 +8,5 @@ pub mod Spanned
 pub mod TermWords
 pub mod Terms
 pub mod Under
+pub mod Told
+pub mod Settled

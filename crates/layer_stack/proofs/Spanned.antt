@@ -9,7 +9,7 @@ use Rattle.std.specs.Ordering.{is_eq, eq_by_cmp, ordering_reverse}
 use Rattle.std.specs.FinMap.Entries.{is_sorted}
 use Rattle.std.proofs.lemmas.Grind.{flat_map-append}
 use Rattle.std.proofs.lemmas.Bool.{cases_lt}
-use Rattle.std.proofs.lemmas.List.{get_or_read}
+use Rattle.std.proofs.lemmas.List.{get_or_read, get_or-take, take_more, length-take-le}
 use Rattle.std.proofs.lemmas.List.Elements.{All-head, All-tail, All-push, All-weaker}
 use Rattle.posting_lists.specs.Postings.{section}
 use Rattle.posting_lists.proofs.Sections.{get_or-section, length-section}
@@ -34,6 +34,18 @@ insert_last (e ∷ spans) t s all =
     let above : term_cmp t e.0 ≡ Greater = term_total.antisymm t e.0 ∙ ap ordering_reverse (All-head (λ (x : TermKey × Span). term_cmp x.0 t ≡ Less) e spans all) in
     ap (λ r. if is_eq r then (e.0, s) ∷ spans else e ∷ insert_entry (eq_by_cmp term_cmp) spans t s) above
     ∙ ap (λ es. e ∷ es) (insert_last spans t s (All-tail (λ (x : TermKey × Span). term_cmp x.0 t ≡ Less) e spans all))
+
+-- the entry after those before it, all of which come before it
+pub directory_more : (spans : List (TermKey × Span)) (i : ℕ) (e : TermKey × Span) → T (is_sorted term_cmp spans) → i < length spans → get_or spans i e ≡ e
+    → insert_entry (eq_by_cmp term_cmp) (take i spans) e.0 e.1 ≡ take (i + 1) spans
+directory_more spans i e sorted fits is =
+    insert_last (take i spans) e.0 e.1 all ∙ ap (λ x. take i spans ++ x ∷ []) (sym is) ∙ sym (take_more spans i e fits)
+  where
+    all : All (λ s. term_cmp s.0 e.0 ≡ Less) (take i spans)
+    all k d low =
+        let below : k < i = omega (arith, length-take-le i spans (omega arith), low) in
+        ap (λ (s : TermKey × Span). term_cmp s.0 e.0) (get_or-take i spans k d below)
+        ∙ ap (λ (s : TermKey × Span). term_cmp (get_or spans k d).0 s.0) (get_or_read spans i e fits (sym is) d) ∙ sorted_at term_cmp spans k i d sorted below fits
 
 eq_flip : (a b : TermKey) → eq_by_cmp term_cmp a b ≡ false → is_eq (term_cmp b a) ≡ false
 eq_flip a b e = ap is_eq (term_total.antisymm b a) ∙ by (term_cmp a b) e
@@ -128,9 +140,9 @@ module _ {V : Type 0} (rows : List (Place × V)) where
   }
 
   read_span : (from i : ℕ) (spans : List (TermKey × Span)) (x : Place × V) → IsRead from i spans → i < length rows → x ≡ get_or rows i x → AreBefore (i + 1) (spans ++ (x.0.term, record { from = from; to = i + 1 }) ∷ [])
-      → IsRead (i + 1) (i + 1) (insert_entry (eq_by_cmp term_cmp) spans x.0.term (record { from = from; to = i + 1 }))
+      → IsRead (i + 1) (i + 1) (spans ++ (x.0.term, record { from = from; to = i + 1 }) ∷ [])
   read_span from i spans x read fits at before =
-      subst (IsRead (i + 1) (i + 1)) (sym (insert_last spans x.0.term (record { from = from; to = i + 1 }) all)) (record {
+      record {
         from = omega arith;
         list = retagged_more from i x spans read.list read.run read.from fits at;
         spans = record {
@@ -140,18 +152,18 @@ module _ {V : Type 0} (rows : List (Place × V)) where
         run = run_start (i + 1);
         before = before;
         end = λ e. refl;
-      })
+      }
     where
       all : All (λ e. term_cmp e.0 x.0.term ≡ Less) spans
       all = All-weaker (λ e. term_cmp e.0 (get_or rows from x).0.term ≡ Less) (λ e. term_cmp e.0 x.0.term ≡ Less)
           (λ e less. subst (λ (t : TermKey). term_cmp e.0 t ≡ Less) (read.run from x (omega arith) read.from fits ∙ ap (λ (r : Place × V). r.0.term) (sym at)) less) spans (read.before x (omega (arith, read.from)))
 
   pub read_last : (from i : ℕ) (spans : List (TermKey × Span)) (x : Place × V) → IsRead from i spans → i + 1 ≡ length rows → x ≡ get_or rows i x
-      → IsRead (i + 1) (i + 1) (insert_entry (eq_by_cmp term_cmp) spans x.0.term (record { from = from; to = i + 1 }))
+      → IsRead (i + 1) (i + 1) (spans ++ (x.0.term, record { from = from; to = i + 1 }) ∷ [])
   read_last from i spans x read ends at = read_span from i spans x read (omega arith) at (λ d fits. absurd (omega arith))
 
   pub read_end : (from i : ℕ) (spans : List (TermKey × Span)) (x y : Place × V) → T (is_sorted place_cmp rows) → IsRead from i spans → i + 1 < length rows → x ≡ get_or rows i x → y ≡ get_or rows (i + 1) y
-      → eq_by_cmp term_cmp y.0.term x.0.term ≡ false → IsRead (i + 1) (i + 1) (insert_entry (eq_by_cmp term_cmp) spans x.0.term (record { from = from; to = i + 1 }))
+      → eq_by_cmp term_cmp y.0.term x.0.term ≡ false → IsRead (i + 1) (i + 1) (spans ++ (x.0.term, record { from = from; to = i + 1 }) ∷ [])
   read_end from i spans x y sorted read fits at next apart =
       read_span from i spans x read (omega arith) at (before_more from i x y spans (record { from = from; to = i + 1 }) sorted read.before read.run read.from fits at next apart)
 

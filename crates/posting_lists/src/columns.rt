@@ -81,6 +81,13 @@ impl PostingColumns {
         ListCursor::over(self, from, to)
     }
 
+    /// Their keys, in their order.
+    pub fn keys(&self) -> &[DocKey]
+        ensures { result.now ≡ keys_of self.now }
+    {
+        &self.keys
+    }
+
     pub(crate) fn key(&self, i: usize) -> DocKey
         requires { i < length self.now }
         ensures { slice_get (keys_of self.now) i ≡ Some result }
