@@ -45,7 +45,7 @@ impl Directory {
         ensures { IfOk result (λ d. d ≡ spans.now) }
     {
         let mut directory = Directory {
-            spans: IndexMap::new(alloc),
+            spans: IndexMap::with_capacity(alloc, spans.len())?,
         };
         for (term, span) in spans {
             directory.note(term.type_no, term.key, *span)?;
@@ -98,7 +98,10 @@ impl Directory {
 pub(crate) fn is_same(term: &TermKey, other: &TermKey) -> bool
     ensures { result ≡ eq_by_cmp term_cmp term.now other.now }
 {
-    term == other
+    match (&term.key, &other.key) {
+        (Key::Id(one), Key::Id(two)) => term.type_no == other.type_no && one == two,
+        _ => term == other,
+    }
 }
 
 // What a span tells of keys.
