@@ -1,3 +1,4 @@
+pub mod Grouped
 pub mod Heads
 pub mod Held
 pub mod Laid

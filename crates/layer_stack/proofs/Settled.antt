@@ -1,5 +1,5 @@
 -- Rows that a log leaves, by the numbers of its keys.
-use Rattle.std.proofs.Common.{◌≡◌, ℕ, zero, suc, ◌+◌, ◌-◌, ◌<◌, ◌≤◌, ◌^◌, true, false, cond, List, [], ◌∷◌, ◌++◌, map, drop, length, get_or, slice_get, reverse, Some, refl, sym, ◌∙◌, ap, subst, arith, All}
+use Rattle.std.proofs.Common.{◌≡◌, ℕ, zero, suc, ◌+◌, ◌<◌, ◌≤◌, ◌^◌, true, false, cond, List, [], ◌∷◌, ◌++◌, map, drop, length, get_or, slice_get, reverse, Some, refl, sym, ◌∙◌, ap, subst, arith, All}
 use Rattle.std.specs.Prelude.{T}
 use Rattle.std.specs.Option.{option_map}
 use Rattle.std.specs.FinMap as finite
@@ -10,7 +10,7 @@ use Rattle.std.specs.declared.cmp.Ordering.TheVariants.{Less, Equal, Greater}
 use Rattle.std.specs.Ordering.{eq_by_cmp, ordering_reverse}
 use Rattle.std.proofs.lemmas.List.{length-map, length-append, map-append}
 use Rattle.indexmap.proofs.ReorderLemmas.{map-reverse}
-use Rattle.std.proofs.lemmas.List.Elements.{All-head, All-tail, All-cons, All-append, All-take, All-drop, All-map, All-nil, All-push, All-weaker}
+use Rattle.std.proofs.lemmas.List.Elements.{All-head, All-tail, All-cons, All-nil, All-push, All-weaker}
 use Rattle.std.proofs.lemmas.List.{reverse-append}
 use Rattle.uni_base.specs.declared.edge.Audience.{Audience}
 use Rattle.uni_base.specs.declared.entity.DocKey.{DocKey}
@@ -24,7 +24,7 @@ use Rattle.layer_stack.specs.declared.place.TermKey.{TermKey}
 use Rattle.layer_stack.specs.Places.{term_cmp, place_cmp}
 use Rattle.layer_stack.specs.Postings.{place_of}
 use Rattle.layer_stack.specs.Runs.{AreWithin, AreInTurn, numbered, numbered_from, number_rows, audience_at, posting_from, AreSettled, AreArranged}
-use Rattle.layer_stack.specs.Spans.{spanned, tagged, retagged, AreLaid, put_rows, delete_rows, IsSpans}
+use Rattle.layer_stack.specs.Spans.{spanned, tagged, AreLaid, put_rows, delete_rows, IsSpans}
 use Rattle.layer_stack.proofs.Order.{place_total, place_apart}
 use Rattle.layer_stack.proofs.Laid.{map-after, spanned-map, tagged-map}
 use Rattle.layer_stack.proofs.Told.{told_sorted}
@@ -65,6 +65,14 @@ module _ {K X Y : Type 0} (R : K → K → Ordering) (o : IsTotalOrder R) (apart
 
 -- ---- what is so of each value of a log
 
+pub self_equal : {K : Type 0} (R : K → K → Ordering) → IsTotalOrder R → (k : K) → R k k ≡ Equal
+self_equal R o k = by (R k k) (o.antisymm k k)
+  where
+    by : (r : Ordering) → r ≡ ordering_reverse r → r ≡ Equal
+    by Less e = cc
+    by Equal e = refl
+    by Greater e = cc
+
 module _ {K X : Type 0} (R : K → K → Ordering) (o : IsTotalOrder R) (P : X → Type 0) where
   found_is : (q : K) (es : List (K × X)) (x : X) → All (λ e. P e.1) es → find R q es ≡ Some x → P x
   found_is q [] x all is = cc
@@ -80,20 +88,12 @@ module _ {K X : Type 0} (R : K → K → Ordering) (o : IsTotalOrder R) (P : X �
       subst (All (λ (d : K × X). P d.1)) (sym (reverse-append (e ∷ []) es))
       (All-push (λ (d : K × X). P d.1) (reverse es) e (All-turned es (All-tail (λ (d : K × X). P d.1) e es all)) (All-head (λ (d : K × X). P d.1) e es all))
 
-  self_equal : (k : K) → R k k ≡ Equal
-  self_equal k = by (R k k) (o.antisymm k k)
-    where
-      by : (r : Ordering) → r ≡ ordering_reverse r → r ≡ Equal
-      by Less e = cc
-      by Equal e = refl
-      by Greater e = cc
-
   pub All-from_log : (log : List (K × X)) → All (λ e. P e.1) log → All (λ e. P e.1) (finite.entries (from_log {R = R} log))
   All-from_log log all i d fits =
       let es = finite.entries (from_log {R = R} log) in
       let k = (get_or es i d).0 in
       found_is k (reverse log) (get_or es i d).1 (All-turned log all)
-      (sym (finite.get-from_entries o (reverse log) k) ∙ finite.get-entries (from_log {R = R} log) k ∙ find_at R o k es i d (finite.entries_sorted (from_log {R = R} log)) fits (self_equal k))
+      (sym (finite.get-from_entries o (reverse log) k) ∙ finite.get-entries (from_log {R = R} log) k ∙ find_at R o k es i d (finite.entries_sorted (from_log {R = R} log)) fits (self_equal R o k))
 
 -- ---- numbered keys
 
@@ -112,23 +112,11 @@ numbers_within n (k ∷ keys) =
     let same : n + 1 + length keys ≡ n + suc (length keys) = omega arith in
     All-cons (λ e. e.1 < n + suc (length keys)) (k, n) (numbered_from (n + 1) keys) (omega arith) (subst (λ (m : ℕ). All (λ e. e.1 < m) (numbered_from (n + 1) keys)) same (numbers_within (n + 1) keys))
 
-rows_within : (n : ℕ) (runs : List (TermKey × Span)) (xs : List (DocKey × ℕ)) → All (λ e. e.1 < n) xs → All (λ r. r.1 < n) (number_rows runs xs)
-rows_within n [] xs all = All-nil (λ r. r.1 < n)
-rows_within n (e ∷ runs) xs all =
-    All-append (λ (r : Place × ℕ). r.1 < n) (map (λ x. (place_of e.0 x.0, x.1)) (spanned e.1 xs)) (number_rows runs xs)
-    (All-map (λ (r : Place × ℕ). r.1 < n) (λ x. (place_of e.0 x.0, x.1)) (spanned e.1 xs) (All-take (λ x. x.1 < n) (e.1.to - e.1.from) (drop e.1.from xs) (All-drop (λ x. x.1 < n) e.1.from xs all)))
-    (rows_within n runs xs all)
-
--- the numbers that are left are numbers of keys
-pub places_within : (runs : List (TermKey × Span)) (keys : List DocKey) → All (λ r. r.1 < length keys) (finite.entries (from_log {R = place_cmp} (number_rows runs (numbered keys))))
-places_within runs keys = All-from_log place_cmp place_total (λ n. n < length keys) (number_rows runs (numbered keys)) (rows_within (length keys) runs (numbered keys) (subst (λ (n : ℕ). All (λ e. e.1 < n) (numbered keys)) none_more (numbers_within 0 keys)))
+pub numbered_within : (keys : List DocKey) → All (λ e. e.1 < length keys) (numbered keys)
+numbered_within keys = subst (λ (n : ℕ). All (λ e. e.1 < n) (numbered keys)) none_more (numbers_within 0 keys)
   where
     none_more : 0 + length keys ≡ length keys
     none_more = omega arith
-
--- a row without its term
-abbrev pub number_row : Place × ℕ → DocKey × ℕ
-number_row r = (r.0.key, r.1)
 
 -- ---- what is picked by numbers
 
@@ -187,24 +175,6 @@ pub audience_read : (ps : List Posting) (n : ℕ) (p : Posting) → slice_get ps
 audience_read [] n p at = cc
 audience_read (q ∷ ps) zero p at = let same : q ≡ p = cc in ap (λ (x : Posting). x.audience) same
 audience_read (q ∷ ps) (suc n) p at = audience_read ps n p at
-
--- what is left of a log of numbers, with the spans of its terms
-pub arranged_by : (runs : List (TermKey × Span)) (keys : List DocKey) (spans : List (TermKey × Span)) (places : List (Place × ℕ)) (rows : List (DocKey × ℕ))
-    → places ≡ finite.entries (from_log {R = place_cmp} (number_rows runs (numbered keys))) → retagged spans places ≡ places → IsSpans (length places) spans → rows ≡ map number_row places → AreArranged runs keys spans rows
-arranged_by runs keys spans places rows last told spread is = record {
-  settled = record {
-    last = as_told ∙ last;
-    told = subst (λ (n : ℕ). IsSpans n spans) (sym as_long) spread;
-    count = ap length as_told ∙ sym as_long;
-  };
-  within = subst (All (λ e. e.1 < length keys)) (sym is) (All-map (λ e. e.1 < length keys) number_row places (subst (All (λ r. r.1 < length keys)) (sym last) (places_within runs keys)));
-}
-  where
-    as_told : number_rows spans rows ≡ places
-    as_told = ap (number_rows spans) is ∙ tagged-map (λ t (e : DocKey × ℕ). (place_of t e.0, e.1)) number_row spans places ∙ told
-
-    as_long : length rows ≡ length places
-    as_long = ap length is ∙ length-map places number_row
 
 -- ---- rows that came in in order
 

@@ -30,20 +30,30 @@ use Rattle.layer_stack.proofs.Under.{term_self, deleted_row}
 pub tagged_push : {X Y : Type 0} (tag : TermKey → X → Y) (runs : List (TermKey × Span)) (e : TermKey × Span) (xs : List X) → tagged tag (runs ++ e ∷ []) xs ≡ tagged tag runs xs ++ map (tag e.0) (spanned e.1 xs)
 tagged_push tag runs e xs = flat_map-append (λ s. map (tag s.0) (spanned s.1 xs)) runs (e ∷ []) ∙ ap (λ l. tagged tag runs xs ++ l) (append-nil (map (tag e.0) (spanned e.1 xs)))
 
+-- ---- more rows
+
+module _ {X : Type 0} (xs ys : List X) where
+  spanned_behind : (s : Span) → s.from ≤ s.to → s.to ≤ length xs → spanned s (xs ++ ys) ≡ spanned s xs
+  spanned_behind s le fits =
+      ap (take (s.to - s.from)) (drop-append-le s.from xs ys (omega arith)) ∙ take-append-le (s.to - s.from) (drop s.from xs) ys (omega (arith, length-drop s.from xs))
+
+  -- runs tell no row beyond those that there were
+  pub tagged_behind : {Y : Type 0} (tag : TermKey → X → Y) (runs : List (TermKey × Span)) → AreWithin (length xs) runs → tagged tag runs (xs ++ ys) ≡ tagged tag runs xs
+  tagged_behind tag [] within = refl
+  tagged_behind tag (e ∷ runs) within =
+      let here = All-head (λ (r : TermKey × Span). (r.1.from < r.1.to) × (r.1.to ≤ length xs)) e runs within in
+      λ i. map (tag e.0) (spanned_behind e.1 (omega (arith, here.0)) here.1 i) ++ tagged_behind tag runs (All-tail (λ (r : TermKey × Span). (r.1.from < r.1.to) × (r.1.to ≤ length xs)) e runs within) i
+
 -- ---- one row more
 
 module _ {X : Type 0} (xs : List X) (x : X) where
-  spanned_kept : (s : Span) → s.from ≤ s.to → s.to ≤ length xs → spanned s (xs ++ x ∷ []) ≡ spanned s xs
-  spanned_kept s le fits =
-      ap (take (s.to - s.from)) (drop-append-le s.from xs (x ∷ []) (omega arith)) ∙ take-append-le (s.to - s.from) (drop s.from xs) (x ∷ []) (omega (arith, length-drop s.from xs))
-
   at_end : (ys : List X) → slice_get (ys ++ x ∷ []) (length ys) ≡ Some x
   at_end [] = refl
   at_end (y ∷ ys) = at_end ys
 
   spanned_last : (from : ℕ) → from ≤ length xs → spanned (span_at from (length xs + 1)) (xs ++ x ∷ []) ≡ spanned (span_at from (length xs)) xs ++ x ∷ []
   spanned_last from le =
-      section_more from (length xs) (xs ++ x ∷ []) x le (at_end xs) ∙ ap (λ l. l ++ x ∷ []) (spanned_kept (span_at from (length xs)) le (omega arith))
+      section_more from (length xs) (xs ++ x ∷ []) x le (at_end xs) ∙ ap (λ l. l ++ x ∷ []) (spanned_behind xs (x ∷ []) (span_at from (length xs)) le (omega arith))
 
   spanned_one : spanned (span_at (length xs) (length xs + 1)) (xs ++ x ∷ []) ≡ x ∷ []
   spanned_one =
@@ -51,12 +61,8 @@ module _ {X : Type 0} (xs : List X) (x : X) where
       spanned_last (length xs) (omega arith) ∙ ap (λ n. take n (drop (length xs) xs) ++ x ∷ []) none
 
   module _ {Y : Type 0} (tag : TermKey → X → Y) where
-    -- runs tell no row beyond those that there were
     pub tagged_kept : (runs : List (TermKey × Span)) → AreWithin (length xs) runs → tagged tag runs (xs ++ x ∷ []) ≡ tagged tag runs xs
-    tagged_kept [] within = refl
-    tagged_kept (e ∷ runs) within =
-        let here = All-head (λ (r : TermKey × Span). (r.1.from < r.1.to) × (r.1.to ≤ length xs)) e runs within in
-        λ i. map (tag e.0) (spanned_kept e.1 (omega (arith, here.0)) here.1 i) ++ tagged_kept runs (All-tail (λ (r : TermKey × Span). (r.1.from < r.1.to) × (r.1.to ≤ length xs)) e runs within) i
+    tagged_kept = tagged_behind xs (x ∷ []) tag
 
     -- the rows of runs that have gained one
     pub told_more : (old new : List (TermKey × Span)) (t : TermKey) → Adds old t (length xs) new → AreWithin (length xs) old → tagged tag new (xs ++ x ∷ []) ≡ tagged tag old xs ++ tag t x ∷ []
@@ -131,7 +137,7 @@ module _ {X V : Type 0} (tag : TermKey → X → Place × V) (key : X → DocKey
   ranked_tags t [] ranked = tt
   ranked_tags t (x ∷ xs) ranked = both _ _ (ranked_below t x xs ranked.0) (ranked_tags t xs ranked.1)
 
-  apart_below : (p : Place) (t : TermKey) (xs : List X) → T (is_lt (term_cmp p.term t)) → T (below_all place_cmp p (map (tag t) xs))
+  pub apart_below : (p : Place) (t : TermKey) (xs : List X) → T (is_lt (term_cmp p.term t)) → T (below_all place_cmp p (map (tag t) xs))
   apart_below p t [] lt = tt
   apart_below p t (x ∷ xs) lt =
       both _ _ (subst (λ (q : Place). T (is_lt (place_cmp p q))) (sym (keeps t x)) (subst (λ (o : Ordering). T (is_lt (ordering_then o (doc_cmp p.key (key x))))) (sym (less_from _ lt)) tt)) (apart_below p t xs lt)

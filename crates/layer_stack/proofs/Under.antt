@@ -29,7 +29,7 @@ told None xs = []
 told (Some s) xs = spanned s xs
 
 module _ {X V : Type 0} (tag : TermKey → X → Place × V) (keeps : (t : TermKey) (x : X) → (tag t x).0.term ≡ t) where
-  same_term : (t s : TermKey) (xs : List X) (b : Bool) → eq_by_cmp term_cmp t s ≡ b → filter (is_under t) (map (tag s) xs) ≡ cond b (map (tag s) xs) []
+  pub same_term : (t s : TermKey) (xs : List X) (b : Bool) → eq_by_cmp term_cmp t s ≡ b → filter (is_under t) (map (tag s) xs) ≡ cond b (map (tag s) xs) []
   same_term t s [] true e = refl
   same_term t s [] false e = refl
   same_term t s (x ∷ xs) true e =

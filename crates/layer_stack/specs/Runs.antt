@@ -1,10 +1,12 @@
 -- Runs: rows that came in one after another under one term, each told by its span.
 use Rattle.std.specs.Prelude.{◌≡◌, ◌<◌, ◌≤◌, ◌+◌, ℕ, zero, suc, List, [], ◌∷◌, ◌++◌, length, All, ◌⊎◌}
+use Rattle.std.specs.List.{flat_map}
 use Rattle.std.specs.FinMap as finite
 use Rattle.uni_base.specs.declared.edge.Audience.{Audience}
 use Rattle.uni_base.specs.declared.edge.Audience.TheVariants.{Public}
 use Rattle.uni_base.specs.declared.entity.DocKey.{DocKey}
 use Rattle.uni_base.specs.Cursors.{IsRanked}
+use Rattle.uni_base.specs.RankOrder.{doc_cmp}
 use Rattle.posting_lists.specs.declared.posting.Posting.{Posting}
 use Rattle.layer_base.specs.Layers.{from_log}
 use Rattle.layer_stack.specs.declared.directory.Span.{Span}
@@ -42,6 +44,14 @@ numbered = numbered_from 0
 -- the rows of numbered keys
 abbrev pub number_rows : List (TermKey × Span) → List (DocKey × ℕ) → List (Place × ℕ)
 number_rows = tagged (λ term e. (place_of term e.0, e.1))
+
+-- the items that runs tell, one run after another
+abbrev pub run_items : {X : Type 0} → List (TermKey × Span) → List X → List X
+run_items runs xs = flat_map (λ e. spanned e.1 xs) runs
+
+-- the last words of runs of one term on its keys, in rank order
+abbrev pub left_of : List (TermKey × Span) → List DocKey → List (DocKey × ℕ)
+left_of runs keys = finite.entries (from_log {R = doc_cmp} (run_items runs (numbered keys)))
 
 -- the audience of the posting at a place
 abbrev pub audience_at : List Posting → ℕ → Audience

@@ -1,13 +1,11 @@
-ghost use Rattle.std.specs.Prelude.{◌≡◌, ◌≤◌, ◌++◌, ◌∷◌, [], T, length, map, IfOk, OnOk};
-ghost use Rattle.std.specs.FinMap.{is_sorted};
-ghost use Rattle.layer_stack.specs.Places.{place_cmp, term_of};
-ghost use Rattle.layer_stack.specs.Postings.{place_of};
-ghost use Rattle.layer_stack.specs.Spans.{spanned, retagged, IsSpans};
-ghost use Rattle.layer_stack.specs.Runs.{AreWithin, AreArranged, numbered, number_rows};
+ghost use Rattle.std.specs.Prelude.{◌≡◌, ◌≤◌, ◌++◌, ◌∷◌, [], length, IfOk, OnOk};
+ghost use Rattle.layer_stack.specs.Places.{term_of};
+ghost use Rattle.layer_stack.specs.Spans.{spanned};
+ghost use Rattle.layer_stack.specs.Runs.{AreWithin, AreArranged, left_of, numbered, span_at};
 
+use crate::TermKey;
 use crate::directory::{Span, is_same};
-use crate::{Place, TermKey};
-use layer_base::last_words;
+use layer_base::keep_last_words;
 use std::alloc::{AllocError, Global};
 use uni_base::{DocKey, Key};
 
@@ -18,60 +16,74 @@ pub(crate) struct Arrangement {
     pub(crate) rows: Vec<(DocKey, usize)>,
 }
 
-// The last words of runs of keys, in the order of places. Each key has its place among all keys.
+// The last words of runs of keys, in the order of places. Each key has its place among all keys. The
+// runs are put in the order of their terms, and then the keys of each term in theirs.
 pub(crate) fn arrange(
     alloc: Global,
-    runs: &[(TermKey, Span)],
+    mut runs: Vec<(TermKey, Span)>,
     keys: &[DocKey],
 ) -> Result<Arrangement, AllocError>
-    requires { AreWithin (length keys.now) runs.now }
-    ensures { IfOk result (λ a. AreArranged runs.now keys.now a.spans.items a.rows.items) }
+    requires { AreWithin (length keys.now) runs.items }
+    ensures { IfOk result (λ a. AreArranged runs.items keys.now a.spans.items a.rows.items) }
 {
-    let mut log = Vec::new(alloc);
-    for (term, span) in runs {
-        log_numbers(&mut log, term, keys, *span)?;
+    runs.sort_by(|one, other| one.0.cmp(&other.0))?;
+    let mut arrangement = Arrangement {
+        spans: Vec::new(alloc),
+        rows: Vec::with_capacity(alloc, keys.len())?,
+    };
+    let mut group = Vec::new(alloc);
+    let mut from = 0;
+    for i in 0..runs.len() {
+        if i + 1 == runs.len() || !is_same(&runs[i + 1].0, &runs[i].0) {
+            let term = &runs[i].0;
+            add_term(&mut arrangement, &mut group, term, &runs[from..i + 1], keys)?;
+            from = i + 1;
+        }
     }
-    let places = last_words(log)?;
-    let spans = spans_of(alloc, &places)?;
-    let mut rows = Vec::with_capacity(alloc, places.len())?;
-    for (place, number) in &places {
-        rows.push((place.key, *number))?;
-    }
-    Ok(Arrangement { spans, rows })
+    Ok(arrangement)
 }
 
-// Adds the numbered keys of a run to a log.
-fn log_numbers(
-    log: &mut Vec<(Place, usize)>,
+// Adds what runs of a term leave. `group` is used on the way.
+fn add_term(
+    arrangement: &mut Arrangement,
+    group: &mut Vec<(DocKey, usize)>,
     term: &TermKey,
+    runs: &[(TermKey, Span)],
+    keys: &[DocKey],
+) -> Result<(), AllocError>
+    requires { AreWithin (length keys.now) runs.now }
+    ensures rows { OnOk result (arrangement.new.rows.items ≡ arrangement.old.rows.items ++ left_of runs.now keys.now) }
+    ensures spans { OnOk result (arrangement.new.spans.items ≡ arrangement.old.spans.items ++ (term.now, span_at (length arrangement.old.rows.items) (length arrangement.new.rows.items)) ∷ []) }
+{
+    group.clear();
+    for (_term, span) in runs {
+        add_numbers(group, keys, *span)?;
+    }
+    keep_last_words(group)?;
+    let from = arrangement.rows.len();
+    arrangement.rows.append(group)?;
+    let to = arrangement.rows.len();
+    note(
+        &mut arrangement.spans,
+        term.type_no,
+        term.key,
+        Span { from, to },
+    )
+}
+
+// Adds the numbered keys of a span.
+fn add_numbers(
+    group: &mut Vec<(DocKey, usize)>,
     keys: &[DocKey],
     span: Span,
 ) -> Result<(), AllocError>
     requires { (span.from ≤ span.to) × (span.to ≤ length keys.now) }
-    ensures { OnOk result (log.new.items ≡ log.old.items ++ map (λ e. (place_of term.now e.0, e.1)) (spanned span (numbered keys.now))) }
+    ensures { OnOk result (group.new.items ≡ group.old.items ++ spanned span (numbered keys.now)) }
 {
     for i in span.from..span.to {
-        log.push((Place::at(term.type_no, term.key, keys[i]), i))?;
+        group.push((keys[i], i))?;
     }
     Ok(())
-}
-
-// Where the rows of each term stand among rows in the order of places.
-fn spans_of<V>(alloc: Global, rows: &[(Place, V)]) -> Result<Vec<(TermKey, Span)>, AllocError>
-    requires { T (is_sorted place_cmp rows.now) }
-    ensures rows { IfOk result (λ spans. retagged spans.items rows.now ≡ rows.now) }
-    ensures spans { IfOk result (λ spans. IsSpans (length rows.now) spans.items) }
-{
-    let mut spans = Vec::new(alloc);
-    let mut from = 0;
-    for i in 0..rows.len() {
-        let term = rows[i].0.term;
-        if i + 1 == rows.len() || !is_same(&rows[i + 1].0.term, &term) {
-            note(&mut spans, term.type_no, term.key, Span { from, to: i + 1 })?;
-            from = i + 1;
-        }
-    }
-    Ok(spans)
 }
 
 fn note(

@@ -26,7 +26,7 @@ pub(crate) fn settle_postings(
     if rises(&runs) && are_in_turn(&runs, postings.keys()) {
         return Ok((runs, postings));
     }
-    let arrangement = arrange(alloc, &runs, postings.keys())?;
+    let arrangement = arrange(alloc, runs, postings.keys())?;
     let columns = pick_postings(alloc, &postings, &arrangement.rows)?;
     Ok((arrangement.spans, columns))
 }
@@ -44,7 +44,7 @@ pub(crate) fn settle_keys(
     if rises(&runs) && are_in_turn(&runs, &keys) {
         return Ok((runs, keys));
     }
-    let arrangement = arrange(alloc, &runs, &keys)?;
+    let arrangement = arrange(alloc, runs, &keys)?;
     let keys = pick_keys(alloc, &arrangement.rows)?;
     Ok((arrangement.spans, keys))
 }

@@ -1,38 +1,82 @@
-use Rattle.std.proofs.Common.{rules, ◌≡◌, ◌++◌, ◌∷◌, [], T, map, take, ap, ◌∙◌, sym, subst}
-use Rattle.std.specs.FinMap as finite
-use Rattle.std.specs.FinMap.{is_sorted}
-use Rattle.std.proofs.lemmas.List.{take_more, take_all}
-use Rattle.uni_base.specs.declared.entity.DocKey.{DocKey}
-use Rattle.layer_base.specs.Layers.{from_log}
-use Rattle.layer_stack.specs.Places.{place_cmp}
-use Rattle.layer_stack.specs.Postings.{place_of}
-use Rattle.layer_stack.specs.Runs.{numbered, number_rows}
-use Rattle.layer_stack.specs.Spans.{spanned}
-use Rattle.layer_stack.proofs.Order.{place_apart}
-use Rattle.layer_stack.proofs.Told.{tagged_push}
-use Rattle.layer_stack.proofs.Settled.{arranged_by, number_row}
+use Rattle.std.proofs.Common.{rules, arith, ◌≡◌, ◌<◌, ◌≤◌, ◌+◌, ◌++◌, ◌∷◌, [], ◌-◌, length, drop, get_or, Bool, true, false, List, ℕ, ap, ◌∙◌, sym, subst}
+use Rattle.std.specs.List.Sorted.{IsSortedByKey}
+use Rattle.std.specs.Ordering.{is_lt, eq_by_cmp}
+use Rattle.std.proofs.lemmas.List.{get_or_read}
+use Rattle.std.proofs.lemmas.List.Elements.{All-take, All-drop}
+use Rattle.std.proofs.lemmas.List.Sorted.{answers_always, ranks_by, All-permutation}
+use Rattle.posting_lists.specs.Postings.{section}
+use Rattle.layer_base.proofs.LastWords.{filter_ties}
+use Rattle.layer_stack.specs.declared.arrange.Arrangement.{Arrangement}
+use Rattle.layer_stack.specs.declared.directory.Span.{Span}
+use Rattle.layer_stack.specs.declared.place.TermKey.{TermKey}
+use Rattle.layer_stack.specs.Places.{term_cmp}
+use Rattle.layer_stack.specs.Runs.{AreWithin, left_of, span_at}
+use Rattle.layer_stack.proofs.Order.{term_total, term_apart}
+use Rattle.layer_stack.proofs.Grouped.{IsGrouped, ComeBefore, group_start, group_on, group_closed, before_next, all_grouped}
 use Rattle.layer_stack.proofs.arrange.arrange.Goals as goal
+use Rattle.layer_stack.proofs.arrange.arrange.Goals.{then-i-len+in_ok-add_term, then-i-len-via-then-i-len, then-i-len-via-else-i-len+then-not-is_same, else-i-len+else-not-is_same}
 
-pub loop-term-preserved : goal.loop-term-preserved
-loop-term-preserved c =
-    let runs = c.args.runs.now in let keys = c.args.keys.now in let i = c.loop-term.term-index in let e = c.loop-term-item.result in
-    let added : c.log_numbers.new.log.items ≡ c.loop-term.log.items ++ map (λ (x : DocKey × _). (place_of e.0 x.0, x.1)) (spanned e.1 (numbered keys)) = c.in_ok-log_numbers.ensures {u = tt} in
-    added ∙ ap (λ l. l ++ map (λ x. (place_of e.0 x.0, x.1)) (spanned e.1 (numbered keys))) c.loop-term.invariant
-    ∙ sym (ap (λ rs. number_rows rs (numbered keys)) (take_more runs i e c.loop-term-test.true ∙ ap (λ x. take i runs ++ x ∷ []) (sym c.loop-term-item.is)) ∙ tagged_push (λ t x. (place_of t x.0, x.1)) (take i runs) e (numbered keys))
+pub add_term-requires : goal.add_term-requires
+add_term-requires c =
+    let keys = c.args.keys.now in let runs = c.sort_by.new.self.items in let from = c.loop-i.from in
+    let within : AreWithin (length keys) runs = All-permutation (λ (r : TermKey × Span). (r.1.from < r.1.to) × (r.1.to ≤ length keys)) c.args.runs.items runs c.sort_by.ensures.permutation c.requires in
+    let all : AreWithin (length keys) c.deref.result.now = subst (λ (rs : List (TermKey × Span)). AreWithin (length keys) rs) (sym c.deref.ensures.value) within in
+    All-take (λ (r : TermKey × Span). (r.1.from < r.1.to) × (r.1.to ≤ length keys)) (c.loop-i.i + 1 - from) (drop from c.deref.result.now) (All-drop (λ (r : TermKey × Span). (r.1.from < r.1.to) × (r.1.to ≤ length keys)) from c.deref.result.now all)
 
-pub last_words-requires : goal.last_words-requires
-last_words-requires c = place_apart
+pub loop-i-init : goal.loop-i-init
+loop-i-init c = group_start c.sort_by.new.self.items c.args.keys.now c.new.result.items c.in_ok-with_capacity.field-0.items c.new.ensures.items c.in_ok-with_capacity.ensures.items
 
-pub spans_of-requires : goal.spans_of-requires
-spans_of-requires c =
-    let last : c.in_ok-places.places.items ≡ finite.entries (from_log {R = place_cmp} c.loop-term.log.items) = search rules in
-    subst (λ rs. T (is_sorted place_cmp rs)) (sym (c.deref.ensures.value ∙ last)) (finite.entries_sorted (from_log {R = place_cmp} c.loop-term.log.items))
+pub loop-i-preserved : goal.loop-i-preserved
+loop-i-preserved c =
+    let keys = c.args.keys.now in let runs = c.sort_by.new.self.items in let i = c.loop-i.i in let from = c.loop-i.from in
+    let spans = c.loop-i.arrangement.spans.items in let rows = c.loop-i.arrangement.rows.items in let inv = c.loop-i.invariant in
+    let told = c.if-i-len.arrangement.spans.items in let news = c.if-i-len.arrangement.rows.items in
+    let key : TermKey × Span → TermKey = λ e. e.0 in
+    let order : TermKey × Span → TermKey × Span → Bool = λ x y. is_lt (term_cmp x.0 y.0) in
+    let ranks = ranks_by term_total key in
+    let computes = answers_always _ (λ a r. is_lt r ≡ order a.0.now a.1.0.now) _ (λ f a r f' k. search rules) in
+    let sorted : IsSortedByKey key term_cmp runs = c.in_ok-sort_by.ensures.sorted order ranks computes in
+    let within : AreWithin (length keys) runs = All-permutation (λ (r : TermKey × Span). (r.1.from < r.1.to) × (r.1.to ≤ length keys)) c.args.runs.items runs c.sort_by.ensures.permutation c.requires in
+    let fits : i < length runs = search (rules, arith) in
+    let whole : c.len.result ≡ length runs = search rules in
+    elim c.if-i-len.branch [
+      | then-i-len+in_ok-add_term w ↦
+          let x = w.index-then-i-len.result.now in
+          let at : x ≡ get_or runs i x = w.index-then-i-len.ensures in
+          let is : news ≡ rows ++ left_of (section from (i + 1) runs) keys =
+          ap (λ (a : Arrangement). a.rows.items) w.arrangement-is ∙ w.in_ok-add_term.ensures.rows ∙ ap (λ (rs : List (TermKey × Span)). rows ++ left_of (section from (i + 1) rs) keys) w.deref.ensures.value in
+          let are : told ≡ spans ++ (x.0, span_at (length rows) (length news)) ∷ [] =
+          ap (λ (a : Arrangement). a.spans.items) w.arrangement-is ∙ w.in_ok-add_term.ensures.spans ∙ ap (λ (a : Arrangement). spans ++ (x.0, span_at (length rows) (length a.rows.items)) ∷ []) (sym w.arrangement-is) in
+          let closed : ComeBefore runs (i + 1) told → IsGrouped runs keys c.if-i-len.from (i + 1) told news =
+          λ before. subst (λ (n : ℕ). IsGrouped runs keys n (i + 1) told news) (sym w.from-is) (group_closed runs keys within from i spans told rows news x inv fits at is are before) in
+          elim w.then-i-len.branch [
+            | then-i-len-via-then-i-len v ↦ closed (λ d more. absurd (omega (arith, more, v.if-i-len.true, whole)))
+            | then-i-len-via-else-i-len+then-not-is_same v ↦
+                let y = v.index.result.now in let z = v.index-else-i-len.result.now in
+                let more : i + 1 < length runs = omega (arith, v.if-i-len.false, whole, fits) in
+                let same : z ≡ x = get_or_read runs i z fits v.index-else-i-len.ensures x ∙ sym at in
+                let apart : eq_by_cmp term_cmp y.0 z.0 ≡ false = search rules in
+                closed (subst (λ (ss : List (TermKey × Span)). ComeBefore runs (i + 1) ss) (sym are)
+                (before_next runs from i x y spans (span_at (length rows) (length news)) sorted inv.before inv.one inv.from more at v.index.ensures (ap (λ (e : TermKey × Span). eq_by_cmp term_cmp y.0 e.0) (sym same) ∙ apart)))
+          ]
+      | else-i-len+else-not-is_same w ↦
+          let x = w.index-else-i-len.result.now in let y = w.index.result.now in
+          let more : i + 1 < length runs = omega (arith, w.if-i-len.false, whole, fits) in
+          let equal : eq_by_cmp term_cmp y.0 x.0 ≡ true = search rules in
+          let on : IsGrouped runs keys from (i + 1) spans rows = group_on runs keys within from i spans rows x y inv more w.index-else-i-len.ensures w.index.ensures equal in
+          subst (λ (n : ℕ). IsGrouped runs keys n (i + 1) told news) (sym w.from-is)
+          (subst (λ (a : Arrangement). IsGrouped runs keys from (i + 1) a.spans.items a.rows.items) (sym w.arrangement-is) on)
+    ]
 
 pub returns : goal.returns
 returns c =
-    let runs = c.args.runs.now in let keys = c.args.keys.now in
-    let last : c.in_ok-places.places.items ≡ finite.entries (from_log {R = place_cmp} c.loop-term.log.items) = search rules in
-    let log : c.loop-term.log.items ≡ number_rows runs (numbered keys) = c.loop-term.invariant ∙ ap (λ rs. number_rows rs (numbered keys)) (take_all c.loop-term.term-index runs c.loop-term-test.false) in
-    let settled : c.deref.result.now ≡ finite.entries (from_log {R = place_cmp} (number_rows runs (numbered keys))) = c.deref.ensures.value ∙ last ∙ ap (λ l. finite.entries (from_log {R = place_cmp} l)) log in
-    let rows = c.loop-place.invariant ∙ ap (map number_row) (take_all c.loop-place.place-index c.deref-place-items.result.now c.loop-place-test.false ∙ c.deref-place-items.ensures.value ∙ sym c.deref.ensures.value) in
-    arranged_by runs keys c.in_ok-spans.spans.items c.deref.result.now c.loop-place.rows.items settled c.in_ok-spans.ensures.rows c.in_ok-spans.ensures.spans rows
+    let runs = c.sort_by.new.self.items in
+    let key : TermKey × Span → TermKey = λ e. e.0 in
+    let order : TermKey × Span → TermKey × Span → Bool = λ x y. is_lt (term_cmp x.0 y.0) in
+    let ranks = ranks_by term_total key in
+    let computes = answers_always _ (λ a r. is_lt r ≡ order a.0.now a.1.0.now) _ (λ f a r f' k. search rules) in
+    let stable = c.in_ok-sort_by.ensures.stable order ranks computes in
+    let none : Span = span_at 0 0 in
+    let whole : c.loop-i.i ≡ length runs = search rules in
+    all_grouped runs c.args.runs.items c.args.keys.now c.loop-i.from c.loop-i.i c.loop-i.arrangement.spans.items c.loop-i.arrangement.rows.items c.loop-i.invariant whole
+    (λ t. sym (filter_ties term_cmp term_total term_apart t none runs) ∙ stable (t, none) ∙ filter_ties term_cmp term_total term_apart t none c.args.runs.items)

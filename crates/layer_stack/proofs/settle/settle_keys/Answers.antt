@@ -21,7 +21,6 @@ pub returns : goal.returns
 returns c =
     let a = c.in_ok-arrangement.arrangement in let keys = c.args.keys.items in let runs = c.args.runs.items in
     let arranged : AreArranged runs keys a.spans.items a.rows.items =
-    subst (λ (rs : List (TermKey × Span)). AreArranged rs keys a.spans.items a.rows.items) c.deref-2.ensures.value
-    (subst (λ (ks : List DocKey). AreArranged c.deref-2.result.now ks a.spans.items a.rows.items) c.deref-3.ensures.value (c.in_ok-arrangement.ensures {u = tt})) in
-    let picked : c.in_ok-keys.keys.items ≡ map (λ (e : DocKey × ℕ). e.0) a.rows.items = c.in_ok-keys.ensures {u = tt} ∙ ap (map (λ (e : DocKey × ℕ). e.0)) c.deref-4.ensures.value in
+    subst (λ (ks : List DocKey). AreArranged runs ks a.spans.items a.rows.items) c.deref-2.ensures.value (c.in_ok-arrangement.ensures {u = tt}) in
+    let picked : c.in_ok-keys.keys.items ≡ map (λ (e : DocKey × ℕ). e.0) a.rows.items = c.in_ok-keys.ensures {u = tt} ∙ ap (map (λ (e : DocKey × ℕ). e.0)) c.deref-3.ensures.value in
     subst (λ xs. AreSettled (delete_rows runs keys) (delete_rows a.spans.items xs) a.spans.items (length xs)) (sym picked) (keys_settled runs keys a.spans.items a.rows.items arranged)

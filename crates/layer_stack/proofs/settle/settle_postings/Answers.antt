@@ -19,21 +19,18 @@ returns-then-are_in_turn c =
     (subst (AreInTurn c.args.runs.items) c.keys.ensures (subst (λ (runs : List (TermKey × Span)). AreInTurn runs c.keys.result.now) c.deref-then-rises.ensures.value turn))
 
 pub arrange-requires : goal.arrange-requires
-arrange-requires c =
-    subst (λ (runs : List (TermKey × Span)). AreWithin (length c.keys-2.result.now) runs) (sym c.deref-2.ensures.value)
-    (subst (λ n. AreWithin n c.args.runs.items) (sym (ap length c.keys-2.ensures ∙ length-keys c.args.postings)) c.requires)
+arrange-requires c = subst (λ n. AreWithin n c.args.runs.items) (sym (ap length c.keys-2.ensures ∙ length-keys c.args.postings)) c.requires
 
 pub pick_postings-requires : goal.pick_postings-requires
 pick_postings-requires c =
     let arranged = c.in_ok-arrangement.ensures {u = tt} in
-    subst (λ (rows : List (DocKey × _)). All (λ e. e.1 < length c.args.postings) rows) (sym c.deref-3.ensures.value)
+    subst (λ (rows : List (DocKey × _)). All (λ e. e.1 < length c.args.postings) rows) (sym c.deref-2.ensures.value)
     (subst (λ n. All (λ e. e.1 < n) c.in_ok-arrangement.arrangement.rows.items) (ap length c.keys-2.ensures ∙ length-keys c.args.postings) arranged.within)
 
 pub returns : goal.returns
 returns c =
     let a = c.in_ok-arrangement.arrangement in let ps = c.args.postings in let runs = c.args.runs.items in
     let arranged : AreArranged runs (keys_of ps) a.spans.items a.rows.items =
-    subst (λ (rs : List (TermKey × Span)). AreArranged rs (keys_of ps) a.spans.items a.rows.items) c.deref-2.ensures.value
-    (subst (λ (ks : List DocKey). AreArranged c.deref-2.result.now ks a.spans.items a.rows.items) c.keys-2.ensures (c.in_ok-arrangement.ensures {u = tt})) in
-    let picked : c.in_ok-columns.columns ≡ map (posting_from ps) a.rows.items = c.in_ok-columns.ensures {u = tt} ∙ ap (map (posting_from ps)) c.deref-3.ensures.value in
+    subst (λ (ks : List DocKey). AreArranged runs ks a.spans.items a.rows.items) c.keys-2.ensures (c.in_ok-arrangement.ensures {u = tt}) in
+    let picked : c.in_ok-columns.columns ≡ map (posting_from ps) a.rows.items = c.in_ok-columns.ensures {u = tt} ∙ ap (map (posting_from ps)) c.deref-2.ensures.value in
     subst (λ xs. AreSettled (put_rows runs ps) (put_rows a.spans.items xs) a.spans.items (length xs)) (sym picked) (postings_settled runs ps a.spans.items a.rows.items arranged)
