@@ -98,7 +98,7 @@ module _ {K X : Type 0} (R : K → K → Ordering) (o : IsTotalOrder R) (apart :
       by Equal e t = ap (λ (s : Ordering). not (is_lt s)) (t ∙ ap ordering_reverse e)
       by Greater e t = ap (λ (s : Ordering). not (is_lt s)) (t ∙ ap ordering_reverse e)
 
-  filter_ties : (q : K) (v : X) (es : List (K × X)) → filter (ties less (q, v)) es ≡ filter (λ e. eq_by_cmp R q e.0) es
+  pub filter_ties : (q : K) (v : X) (es : List (K × X)) → filter (ties less (q, v)) es ≡ filter (λ e. eq_by_cmp R q e.0) es
   filter_ties q v es = ap (λ (p : K × X → Bool). filter p es) (λ i e. ties_is (q, v) e i)
 
   -- a sort that keeps the order of what ties finds at each key what was found before

@@ -8,5 +8,5 @@ mod shared;
 #[cfg(test)]
 mod tests;
 
-pub use log::{last_words, look_up, rows_left};
+pub use log::{keep_last_words, last_words, look_up, rises, rows_left};
 pub use shared::SharedLayers;

@@ -1,4 +1,4 @@
-ghost use Rattle.std.specs.Prelude.{◌≡◌, ◌≤◌, T, length, IfOk};
+ghost use Rattle.std.specs.Prelude.{◌≡◌, ◌≤◌, T, length, IfOk, OnOk};
 ghost use Rattle.std.specs.Option.{option_map};
 ghost use Rattle.std.specs.FinMap as map;
 ghost use Rattle.std.specs.FinMap.{is_sorted};
@@ -14,17 +14,28 @@ pub fn last_words<K: Ord + Copy, V: Drop>(mut log: Vec<(K, V)>) -> Result<Vec<(K
     ensures last { IfOk result (λ rows. rows.items ≡ map.entries (from_log {R = K.cmp} log.items)) }
     ensures few { IfOk result (λ rows. length rows.items ≤ length log.items) }
 {
-    if rises(&log) {
-        return Ok(log);
+    keep_last_words(&mut log)?;
+    Ok(log)
+}
+
+/// Leaves of a log its last word on each key, in the order of the keys. A log whose keys strictly
+/// rise stays as it is.
+pub fn keep_last_words<K: Ord + Copy, V: Drop>(log: &mut Vec<(K, V)>) -> Result<(), AllocError>
+    requires { TellsApart K.cmp }
+    ensures last { OnOk result (log.new.items ≡ map.entries (from_log {R = K.cmp} log.old.items)) }
+    ensures few { OnOk result (length log.new.items ≤ length log.old.items) }
+{
+    if rises(log) {
+        return Ok(());
     }
     log.reverse();
     log.sort_by(|one, other| one.0.cmp(&other.0))?;
     log.dedup_by(|one, other| one.0 == other.0);
-    Ok(log)
+    Ok(())
 }
 
-// Whether the keys of rows strictly rise.
-fn rises<K: Ord, V>(rows: &[(K, V)]) -> bool
+/// Whether the keys of rows strictly rise.
+pub fn rises<K: Ord, V>(rows: &[(K, V)]) -> bool
     ensures { result ≡ is_sorted K.cmp rows.now }
 {
     for i in 1..rows.len() {

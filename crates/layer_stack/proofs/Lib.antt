@@ -1,3 +1,4 @@
+pub mod Grouped
 pub mod Heads
 pub mod Held
 pub mod Laid
@@ -8,3 +9,5 @@ pub mod Spanned
 pub mod TermWords
 pub mod Terms
 pub mod Under
+pub mod Told
+pub mod Settled

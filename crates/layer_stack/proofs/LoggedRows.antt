@@ -9,7 +9,7 @@ use Rattle.layer_stack.specs.declared.place.TermKey.{TermKey}
 use Rattle.layer_stack.specs.Spans.{spanned, tagged}
 use Rattle.layer_stack.proofs.Laid.{map-after}
 
-section_more : {X : Type 0} (from i : ℕ) (xs : List X) (x : X) → from ≤ i → slice_get xs i ≡ Some x → section from (i + 1) xs ≡ section from i xs ++ x ∷ []
+pub section_more : {X : Type 0} (from i : ℕ) (xs : List X) (x : X) → from ≤ i → slice_get xs i ≡ Some x → section from (i + 1) xs ≡ section from i xs ++ x ∷ []
 section_more from i xs x le at =
     let fits : i < length xs = slice_get_within xs i x at in
     let one : i + 1 - from ≡ i - from + 1 = omega arith in

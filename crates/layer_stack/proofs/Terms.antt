@@ -33,10 +33,10 @@ use Rattle.layer_base.proofs.Sorted.{both, first, second, is_eq-then, then_lt}
 use Rattle.layer_stack.proofs.Merged.{same_by_get, find-filter, get-part}
 
 -- a row without its term
-abbrev keyed : {V : Type 0} → Place × V → DocKey × V
+abbrev pub keyed : {V : Type 0} → Place × V → DocKey × V
 keyed row = (row.0.key, row.1)
 
-find-under : {V : Type 0} (t : TermKey) (k : DocKey) (es : List (Place × V)) → find place_cmp (place_of t k) es ≡ find doc_cmp k (map keyed (filter (is_under t) es))
+pub find-under : {V : Type 0} (t : TermKey) (k : DocKey) (es : List (Place × V)) → find place_cmp (place_of t k) es ≡ find doc_cmp k (map keyed (filter (is_under t) es))
 find-under t k [] = refl
 find-under {V} t k (e ∷ es) =
     ap (λ b. cond b (Some e.1) (find place_cmp (place_of t k) es)) (is_eq-then (term_cmp t e.0.term) (doc_cmp k e.0.key))

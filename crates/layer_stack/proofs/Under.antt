@@ -29,7 +29,7 @@ told None xs = []
 told (Some s) xs = spanned s xs
 
 module _ {X V : Type 0} (tag : TermKey → X → Place × V) (keeps : (t : TermKey) (x : X) → (tag t x).0.term ≡ t) where
-  same_term : (t s : TermKey) (xs : List X) (b : Bool) → eq_by_cmp term_cmp t s ≡ b → filter (is_under t) (map (tag s) xs) ≡ cond b (map (tag s) xs) []
+  pub same_term : (t s : TermKey) (xs : List X) (b : Bool) → eq_by_cmp term_cmp t s ≡ b → filter (is_under t) (map (tag s) xs) ≡ cond b (map (tag s) xs) []
   same_term t s [] true e = refl
   same_term t s [] false e = refl
   same_term t s (x ∷ xs) true e =
@@ -72,7 +72,7 @@ pub sorted_ranked : {V : Type 0} (es : List (DocKey × V)) → T (is_sorted doc_
 sorted_ranked [] sorted = tt
 sorted_ranked (e ∷ es) sorted = (below_ranked e.0 es (first _ _ sorted), sorted_ranked es (second _ _ sorted))
 
-term_self : (t : TermKey) → term_cmp t t ≡ Equal
+pub term_self : (t : TermKey) → term_cmp t t ≡ Equal
 term_self t = by (term_cmp t t) (term_total.antisymm t t)
   where
     by : (o : Ordering) → o ≡ Rattle.std.specs.Ordering.ordering_reverse o → o ≡ Equal
@@ -106,7 +106,7 @@ untag_put : (t : TermKey) (ps : List Posting) → map posting_of (map (λ (p : P
 untag_put t [] = refl
 untag_put t (p ∷ ps) = ap (λ qs. p ∷ qs) (untag_put t ps)
 
-abbrev deleted_row : TermKey → DocKey → Place × Unit {0}
+abbrev pub deleted_row : TermKey → DocKey → Place × Unit {0}
 deleted_row t k = (place_of t k, tt)
 
 untag_delete : (t : TermKey) (ks : List DocKey) → map key_of (map (deleted_row t) ks) ≡ ks

@@ -1,6 +1,7 @@
 pub mod Hashes
 pub mod Places
 pub mod Postings
+pub mod Runs
 pub mod Spans
 pub mod Stacks
 pub mod Words

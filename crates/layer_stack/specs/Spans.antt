@@ -24,10 +24,6 @@ spanned span = section span.from span.to
 abbrev pub tagged : {X Y : Type 0} → (TermKey → X → Y) → List (TermKey × Span) → List X → List Y
 tagged tag spans xs = flat_map (λ e. map (tag e.0) (spanned e.1 xs)) spans
 
--- rows with their places made anew by the terms of the spans that they stand in
-abbrev pub retagged : {V : Type 0} → List (TermKey × Span) → List (Place × V) → List (Place × V)
-retagged = tagged (λ term row. (place_of term row.0.key, row.1))
-
 -- spans within so many rows, none of them empty, their terms in order
 pub record IsSpans (rows : ℕ) (spans : List (TermKey × Span)) : Type 0 where
   pub sorted : T (is_sorted term_cmp spans)

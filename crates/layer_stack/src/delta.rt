@@ -1,27 +1,33 @@
 ghost use Rattle.std.specs.Prelude.{◌≡◌, OnOk, OnErr};
-ghost use Rattle.std.specs.FinMap as map;
 ghost use Rattle.layer_stack.specs.Postings.{no_changes, deleting, putting, place_of};
 
-use crate::{Place, TermKey};
-use posting_lists::Posting;
+use crate::TermKey;
+use crate::directory::Span;
+use crate::runs::note_row;
+use posting_lists::{Posting, PostingColumns};
 use std::alloc::{AllocError, Global};
 use std::marker::Model;
-use uni_base::{Audience, DocKey};
+use uni_base::DocKey;
 
 /// How many deletes, and how many puts, are noted at most, so that sums over layers stay exact.
 const MOST_NOTED: usize = 1 << 61;
 
 /// The changes of a layer as they come in. A delete and a put of the same posting are both kept,
-/// in whichever order they come.
+/// in whichever order they come. Rows that come one after another under one term are a run, which
+/// keeps the term once.
 #[derive(Drop)]
 pub struct Delta {
-    pub(crate) deletes: Vec<(Place, ())>,
-    pub(crate) puts: Vec<(Place, Audience)>,
+    pub(crate) deletes: Vec<(TermKey, Span)>,
+    pub(crate) deleted: Vec<DocKey>,
+    pub(crate) puts: Vec<(TermKey, Span)>,
+    pub(crate) postings: PostingColumns,
 }
 
 impl Model for Delta {
-    ghost use Rattle.std.specs.Prelude.{◌≤◌, ◌^◌, length};
-    ghost use Rattle.layer_base.specs.Layers.{Changes, from_log};
+    ghost use Rattle.std.specs.Prelude.{length};
+    ghost use Rattle.layer_base.specs.Layers.{from_log};
+    ghost use Rattle.layer_stack.specs.Runs.{AreWithin};
+    ghost use Rattle.layer_stack.specs.Spans.{put_rows, delete_rows};
     ghost use Rattle.layer_stack.specs.Postings.{PostingChanges};
     ghost use Rattle.std.specs.Coded.{codes};
     ghost use Rattle.std.specs.FinMap as finite;
@@ -30,9 +36,9 @@ impl Model for Delta {
 
     ghost coded = { Prim.hlevel (codes, finite.code) };
 
-    ghost view = { λ d. record { deletes = from_log d.deletes.items; puts = from_log d.puts.items } };
+    ghost view = { λ d. record { deletes = from_log (delete_rows d.deletes.items d.deleted.items); puts = from_log (put_rows d.puts.items d.postings) } };
 
-    ghost invariant = { λ d. (length d.deletes.items ≤ 2 ^ 61) × (length d.puts.items ≤ 2 ^ 61) };
+    ghost invariant = { λ d. AreWithin (length d.deleted.items) d.deletes.items × AreWithin (length d.postings) d.puts.items };
 }
 
 impl Delta {
@@ -42,7 +48,9 @@ impl Delta {
     {
         Delta {
             deletes: Vec::new(alloc),
+            deleted: Vec::new(alloc),
             puts: Vec::new(alloc),
+            postings: PostingColumns::new(alloc),
         }
     }
 
@@ -51,12 +59,12 @@ impl Delta {
         ensures ok { OnOk result (self.new ≡ deleting self.old (place_of term key)) }
         ensures err { OnErr result (self.new ≡ self.old) }
     {
-        if self.deletes.len() >= MOST_NOTED {
+        let at = self.deleted.len();
+        if at >= MOST_NOTED {
             return Err(AllocError);
         }
-        self.deletes
-            .push((Place::at(term.type_no, term.key, key), ()))?;
-        Ok(())
+        self.deleted.push(key)?;
+        note_row(&mut self.deletes, &term, at)
     }
 
     /// Puts a posting, in place of one that was put with the same term and key.
@@ -64,12 +72,11 @@ impl Delta {
         ensures ok { OnOk result (self.new ≡ putting self.old (place_of term posting.key) posting.audience) }
         ensures err { OnErr result (self.new ≡ self.old) }
     {
-        if self.puts.len() >= MOST_NOTED {
+        let at = self.postings.len();
+        if at >= MOST_NOTED {
             return Err(AllocError);
         }
-        let Posting { key, audience } = posting;
-        self.puts
-            .push((Place::at(term.type_no, term.key, key), audience))?;
-        Ok(())
+        self.postings.push(posting)?;
+        note_row(&mut self.puts, &term, at)
     }
 }

@@ -1,14 +1,14 @@
-ghost use Rattle.std.specs.Prelude.{◌≡◌, ◌≤◌, IfOk, OnOk, length, is_some, slice_get};
+ghost use Rattle.std.specs.Prelude.{◌≡◌, ◌≤◌, IfOk, OnOk, length, is_some};
 ghost use Rattle.layer_stack.specs.Words.{IsWordFrom};
 ghost use Rattle.std.specs.Prelude.{T};
 ghost use Rattle.indexmap.specs.IndexMap.{insert_entry};
 ghost use Rattle.std.specs.FinMap.{is_sorted};
 ghost use Rattle.std.specs.Ordering.{eq_by_cmp};
-ghost use Rattle.layer_stack.specs.Places.{place_cmp, term_cmp, term_of};
-ghost use Rattle.layer_stack.specs.Spans.{retagged, spanned, IsSpans, span_of};
+ghost use Rattle.layer_stack.specs.Places.{term_cmp, term_of};
+ghost use Rattle.layer_stack.specs.Spans.{spanned, span_of};
 
+use crate::TermKey;
 use crate::words::{is_passed, word_at};
-use crate::{Place, TermKey};
 use indexmap::IndexMap;
 use indexmap::map::Iter;
 use std::alloc::{AllocError, Global};
@@ -39,22 +39,16 @@ impl Model for Directory {
 }
 
 impl Directory {
-    // The directory of rows that stand in the order of places.
-    pub(crate) fn of<V>(alloc: Global, rows: &[(Place, V)]) -> Result<Directory, AllocError>
-        requires { T (is_sorted place_cmp rows.now) }
-        ensures rows { IfOk result (λ d. retagged d rows.now ≡ rows.now) }
-        ensures spans { IfOk result (IsSpans (length rows.now)) }
+    // The directory of spans in the order of their terms.
+    pub(crate) fn of(alloc: Global, spans: &[(TermKey, Span)]) -> Result<Directory, AllocError>
+        requires { T (is_sorted term_cmp spans.now) }
+        ensures { IfOk result (λ d. d ≡ spans.now) }
     {
         let mut directory = Directory {
-            spans: IndexMap::new(alloc),
+            spans: IndexMap::with_capacity(alloc, spans.len())?,
         };
-        let mut from = 0;
-        for i in 0..rows.len() {
-            let term = rows[i].0.term;
-            if i + 1 == rows.len() || !is_same(&rows[i + 1].0.term, &term) {
-                directory.note(term.type_no, term.key, Span { from, to: i + 1 })?;
-                from = i + 1;
-            }
+        for (term, span) in spans {
+            directory.note(term.type_no, term.key, *span)?;
         }
         Ok(directory)
     }
@@ -101,10 +95,13 @@ impl Directory {
     }
 }
 
-fn is_same(term: &TermKey, other: &TermKey) -> bool
+pub(crate) fn is_same(term: &TermKey, other: &TermKey) -> bool
     ensures { result ≡ eq_by_cmp term_cmp term.now other.now }
 {
-    term == other
+    match (&term.key, &other.key) {
+        (Key::Id(one), Key::Id(two)) => term.type_no == other.type_no && one == two,
+        _ => term == other,
+    }
 }
 
 // What a span tells of keys.

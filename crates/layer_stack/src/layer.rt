@@ -1,17 +1,18 @@
-ghost use Rattle.std.specs.Prelude.{◌≡◌, ◌≤◌, ◌+◌, ◌^◌, ◌++◌, T, length, map, IfOk, OnOk};
+ghost use Rattle.std.specs.Prelude.{◌≡◌, ◌≤◌, ◌+◌, ◌^◌, ◌++◌, T, IfOk, OnOk};
 ghost use Rattle.std.specs.FinMap as finite;
 ghost use Rattle.std.specs.FinMap.{is_sorted};
 ghost use Rattle.layer_stack.specs.Places.{place_cmp};
 ghost use Rattle.uni_base.specs.Cursors.{IsRanked};
 ghost use Rattle.layer_base.specs.Changes.{in_turn};
-ghost use Rattle.layer_stack.specs.Postings.{posting_of, key_of, postings_of, deletes_of, entries_of, changes_of, putting_all};
+ghost use Rattle.layer_base.specs.Layers.{from_log};
+ghost use Rattle.layer_stack.specs.Postings.{postings_of, deletes_of, entries_of, putting_all};
 ghost use Rattle.layer_stack.specs.Words.{has_term, IsWordFrom};
 
 use crate::directory::{Directory, part};
 use crate::logged::{log_deletes, log_puts};
+use crate::settle::{settle_keys, settle_postings};
 use crate::words::earlier;
 use crate::{Delta, Place, TermKey};
-use layer_base::last_words;
 use posting_lists::{ListCursor, Posting, PostingColumns};
 use std::alloc::{AllocError, Global};
 use std::marker::Model;
@@ -53,10 +54,23 @@ impl Layer {
     pub fn build(alloc: Global, delta: Delta) -> Result<Layer, AllocError>
         ensures { IfOk result (λ layer. layer ≡ delta) }
     {
-        let Delta { deletes, puts } = delta;
-        let puts = last_words(puts)?;
-        let deletes = last_words(deletes)?;
-        Layer::laid(alloc, &deletes, &puts)
+        let Delta {
+            deletes,
+            deleted,
+            puts,
+            postings,
+        } = delta;
+        let (puts, postings) = settle_postings(alloc, puts, postings)?;
+        let (deletes, deleted) = settle_keys(alloc, deletes, deleted)?;
+        if postings.len() > MOST_ROWS || deleted.len() > MOST_ROWS {
+            return Err(AllocError);
+        }
+        Ok(Layer {
+            puts: Directory::of(alloc, &puts)?,
+            postings,
+            deletes: Directory::of(alloc, &deletes)?,
+            deleted,
+        })
     }
 
     /// The layer that puts the postings of a table, in the order of places, and deletes nothing.
@@ -65,28 +79,7 @@ impl Layer {
         requires { T (is_sorted place_cmp rows.now) }
         ensures { IfOk result (λ layer. layer ≡ putting_all (finite.from_sorted rows.now)) }
     {
-        Layer::laid(alloc, &[], rows)
-    }
-
-    // The layer of rows in the order of places.
-    fn laid(
-        alloc: Global,
-        deletes: &[(Place, ())],
-        puts: &[(Place, Audience)],
-    ) -> Result<Layer, AllocError>
-        requires deletes { T (is_sorted place_cmp deletes.now) }
-        requires puts { T (is_sorted place_cmp puts.now) }
-        ensures { IfOk result (λ layer. layer ≡ changes_of (finite.from_sorted deletes.now) (finite.from_sorted puts.now)) }
-    {
-        if deletes.len() > MOST_ROWS || puts.len() > MOST_ROWS {
-            return Err(AllocError);
-        }
-        Ok(Layer {
-            puts: Directory::of(alloc, puts)?,
-            postings: columns(alloc, puts)?,
-            deletes: Directory::of(alloc, deletes)?,
-            deleted: keys(alloc, deletes)?,
-        })
+        Layer::build(alloc, delta_of(alloc, rows)?)
     }
 
     /// The number of its deletes and puts.
@@ -147,27 +140,17 @@ impl Layer {
     }
 }
 
-// The postings of rows, in columns.
-fn columns(alloc: Global, rows: &[(Place, Audience)]) -> Result<PostingColumns, AllocError>
-    ensures { IfOk result (λ columns. columns ≡ map posting_of rows.now) }
+// The changes that put the postings of a table.
+fn delta_of(alloc: Global, rows: &[(Place, Audience)]) -> Result<Delta, AllocError>
+    ensures { IfOk result (λ delta. delta ≡ putting_all (from_log rows.now)) }
 {
-    let mut columns = PostingColumns::new(alloc);
+    let mut delta = Delta::new(alloc);
     for (place, audience) in rows {
-        columns.push(Posting {
+        let posting = Posting {
             key: place.key,
             audience: *audience,
-        })?;
+        };
+        delta.put(place.term, posting)?;
     }
-    Ok(columns)
-}
-
-// The keys of rows.
-fn keys(alloc: Global, rows: &[(Place, ())]) -> Result<Vec<DocKey>, AllocError>
-    ensures { IfOk result (λ keys. keys.items ≡ map key_of rows.now) }
-{
-    let mut keys = Vec::new(alloc);
-    for (place, _) in rows {
-        keys.push(place.key)?;
-    }
-    Ok(keys)
+    Ok(delta)
 }

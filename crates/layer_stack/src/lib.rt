@@ -2,6 +2,7 @@
 //! as one table.
 #![tactic(auto)]
 
+mod arrange;
 mod cursor;
 mod delta;
 mod directory;
@@ -12,6 +13,8 @@ mod merging;
 mod part;
 mod parts;
 mod place;
+mod runs;
+mod settle;
 mod stack;
 #[cfg(test)]
 mod tests;

@@ -1,4 +1,5 @@
 ghost use Rattle.std.specs.Prelude.{◌≡◌, ◌≤◌, ◌<◌, ◌+◌, ◌-◌, ◌*◌, ◌++◌, ◌∷◌, ◌==◌, [], length, take, drop, OnOk, OnErr, Some, slice_get};
+ghost use Rattle.std.specs.Vec.{vec_len, vec_capacity};
 ghost use Rattle.posting_lists.specs.Postings.{keys_of, section};
 ghost use Rattle.posting_lists.specs.Search.{RisesWithin, IsFirstFrom, most_comparisons};
 ghost use Rattle.uni_base.specs.Cursors.{IsRanked};
@@ -62,8 +63,8 @@ impl PostingColumns {
         ensures ok { OnOk result (self.new ≡ self.old ++ posting ∷ []) }
         ensures err { OnErr result (self.new ≡ self.old) }
     {
-        self.keys.reserve(1)?;
-        self.lasts.reserve(1)?;
+        make_room(&mut self.keys)?;
+        make_room(&mut self.lasts)?;
         self.audiences.push(posting.audience)?;
         self.keys.push(posting.key)?;
         if self.keys.len() % BLOCK == 0 {
@@ -79,6 +80,13 @@ impl PostingColumns {
         ensures { result ≡ section from to self.now }
     {
         ListCursor::over(self, from, to)
+    }
+
+    /// Their keys, in their order.
+    pub fn keys(&self) -> &[DocKey]
+        ensures { result.now ≡ keys_of self.now }
+    {
+        &self.keys
     }
 
     pub(crate) fn key(&self, i: usize) -> DocKey
@@ -114,4 +122,15 @@ impl PostingColumns {
     {
         place_from(&self.keys, &self.lasts, at, end, from, steps)
     }
+}
+
+// Makes room for one key more.
+fn make_room(keys: &mut Vec<DocKey>) -> Result<(), AllocError>
+    ensures items { keys.new.items ≡ keys.old.items }
+    ensures room { OnOk result (vec_len keys.new < vec_capacity keys.new) }
+{
+    if keys.len() == keys.capacity() {
+        keys.reserve(1)?;
+    }
+    Ok(())
 }

@@ -1,35 +1,38 @@
-use Rattle.std.proofs.Common.{rules, ◌≡◌, ap, ◌∙◌, sym, subst}
-use Rattle.std.specs.Prelude.{T}
+use Rattle.std.proofs.Common.{rules, arith, ◌≡◌, ◌≤◌, ◌^◌, List, length, ap, ◌∙◌, sym, subst}
 use Rattle.std.specs.FinMap as finite
-use Rattle.std.specs.FinMap.{is_sorted}
-use Rattle.layer_base.specs.Layers.{from_log}
-use Rattle.std.specs.Result.{IfOk}
+use Rattle.posting_lists.specs.declared.posting.Posting.{Posting}
+use Rattle.layer_stack.specs.declared.directory.Span.{Span}
+use Rattle.layer_stack.specs.declared.place.TermKey.{TermKey}
 use Rattle.layer_stack.specs.Places.{place_cmp}
-use Rattle.layer_stack.specs.Postings.{changes_of}
-use Rattle.layer_stack.proofs.Order.{place_apart}
-use Rattle.layer_base.proofs.Tables.{from_sorted-entries}
+use Rattle.layer_stack.specs.Runs.{AreSettled}
+use Rattle.layer_stack.specs.Spans.{put_rows, delete_rows, AreLaid}
+use Rattle.layer_stack.proofs.Settled.{settled_laid, settled_map}
 use Rattle.layer_stack.proofs.layer.Layer.build.Goals as goal
 
-pub last_words-requires : goal.last_words-requires
-last_words-requires c = place_apart
-
-pub last_words-requires-2 : goal.last_words-requires-2
-last_words-requires-2 c = place_apart
-
-pub laid-requires-clause-deletes : goal.laid-requires-clause-deletes
-laid-requires-clause-deletes c =
-    let last : c.in_ok-deletes.deletes.items ≡ finite.entries (from_log {R = place_cmp} c.delta.inside.deletes.items) = search rules in
-    subst (λ rs. T (is_sorted place_cmp rs)) (sym (c.deref.ensures.value ∙ last)) (finite.entries_sorted (from_log {R = place_cmp} c.delta.inside.deletes.items))
-
-pub laid-requires-clause-puts : goal.laid-requires-clause-puts
-laid-requires-clause-puts c =
-    let last : c.in_ok-puts.puts.items ≡ finite.entries (from_log {R = place_cmp} c.delta.inside.puts.items) = search rules in
-    subst (λ rs. T (is_sorted place_cmp rs)) (sym (c.deref-2.ensures.value ∙ last)) (finite.entries_sorted (from_log {R = place_cmp} c.delta.inside.puts.items))
+pub invariant_of-result-2 : goal.invariant_of-result-2
+invariant_of-result-2 c =
+    let d = c.delta.inside in
+    let puts = c.in_ok-puts.puts.items in let ps = c.in_ok-puts.postings in let deletes = c.in_ok-deletes.deletes.items in let ks = c.in_ok-deletes.deleted.items in
+    let put_settled : AreSettled (put_rows d.puts.items d.postings) (put_rows puts ps) puts (length ps) = c.in_ok-puts.ensures {u = tt} in
+    let delete_settled : AreSettled (delete_rows d.deletes.items d.deleted.items) (delete_rows deletes ks) deletes (length ks) = c.in_ok-deletes.ensures {u = tt} in
+    let put_few : length ps ≤ 2 ^ 61 = omega (arith, c.if-len-gt-MOST_ROWS.false, c.len.ensures, ap length c.postings.view_is) in
+    let key_count : c.len-else-len-gt-MOST_ROWS.result ≡ length ks = search rules in
+    let delete_few : length ks ≤ 2 ^ 61 = omega (arith, c.if-len-gt-MOST_ROWS-2.false, key_count) in
+    let put_spans : c.in_ok-of.field-0 ≡ puts = c.in_ok-of.ensures {u = tt} ∙ c.deref.ensures.value in
+    let delete_spans : c.in_ok-of-2.field-0 ≡ deletes = c.in_ok-of-2.ensures {u = tt} ∙ c.deref-2.ensures.value in (
+      subst (λ (xs : List Posting). AreLaid (put_rows c.in_ok-of.field-0 xs) c.in_ok-of.field-0 (length xs)) (sym c.postings.view_is)
+          (subst (λ (ss : List (TermKey × Span)). AreLaid (put_rows ss ps) ss (length ps)) (sym put_spans) (settled_laid (put_rows d.puts.items d.postings) (put_rows puts ps) puts (length ps) put_settled put_few)),
+      subst (λ (ss : List (TermKey × Span)). AreLaid (delete_rows ss ks) ss (length ks)) (sym delete_spans) (settled_laid (delete_rows d.deletes.items d.deleted.items) (delete_rows deletes ks) deletes (length ks) delete_settled delete_few),
+    )
 
 pub returns : goal.returns
 returns c =
-    let puts : c.in_ok-puts.puts.items ≡ finite.entries (from_log {R = place_cmp} c.delta.inside.puts.items) = search rules in
-    let deletes : c.in_ok-deletes.deletes.items ≡ finite.entries (from_log {R = place_cmp} c.delta.inside.deletes.items) = search rules in
-    let put_side = ap (finite.from_sorted {R = place_cmp}) (c.deref-2.ensures.value ∙ puts) ∙ from_sorted-entries (from_log {R = place_cmp} c.delta.inside.puts.items) in
-    let delete_side = ap (finite.from_sorted {R = place_cmp}) (c.deref.ensures.value ∙ deletes) ∙ from_sorted-entries (from_log {R = place_cmp} c.delta.inside.deletes.items) in
-    subst (λ v. IfOk c.laid.result (λ layer. layer ≡ v)) ((λ i. changes_of (delete_side i) (put_side i)) ∙ c.delta.view_is) c.laid.ensures
+    let d = c.delta.inside in
+    let puts = c.in_ok-puts.puts.items in let ps = c.in_ok-puts.postings in let deletes = c.in_ok-deletes.deletes.items in let ks = c.in_ok-deletes.deleted.items in
+    let put_settled : AreSettled (put_rows d.puts.items d.postings) (put_rows puts ps) puts (length ps) = c.in_ok-puts.ensures {u = tt} in
+    let delete_settled : AreSettled (delete_rows d.deletes.items d.deleted.items) (delete_rows deletes ks) deletes (length ks) = c.in_ok-deletes.ensures {u = tt} in
+    let put_spans : c.in_ok-of.field-0 ≡ puts = c.in_ok-of.ensures {u = tt} ∙ c.deref.ensures.value in
+    let delete_spans : c.in_ok-of-2.field-0 ≡ deletes = c.in_ok-of-2.ensures {u = tt} ∙ c.deref-2.ensures.value in
+    let put_side = (λ i. finite.from_sorted {R = place_cmp} (put_rows (put_spans i) (c.postings.view_is i))) ∙ settled_map (put_rows d.puts.items d.postings) (put_rows puts ps) puts (length ps) put_settled in
+    let delete_side = (λ i. finite.from_sorted {R = place_cmp} (delete_rows (delete_spans i) ks)) ∙ settled_map (delete_rows d.deletes.items d.deleted.items) (delete_rows deletes ks) deletes (length ks) delete_settled in
+    (λ i. record { deletes = delete_side i; puts = put_side i }) ∙ c.delta.view_is

@@ -8,12 +8,12 @@ use Rattle.std.specs.Prelude.{T}
 use Rattle.std.specs.FinMap.{is_sorted}
 use Rattle.layer_base.proofs.Rising.{log_sorted}
 use Rattle.layer_base.proofs.LastWords.{last_words_are}
-use Rattle.layer_base.proofs.log.last_words.Goals as goal
+use Rattle.layer_base.proofs.log.keep_last_words.Goals as goal
 
 pub returns-clause-last : goal.returns-clause-last
 returns-clause-last g c =
     let R = g.K.Ord.cmp in
-    let turned : c.reverse.new.self.items ≡ reverse c.args.log.items = c.reverse.ensures.items in
+    let turned : c.reverse.new.self.items ≡ reverse c.args.log.now.items = c.reverse.ensures.items in
     let ys = c.sort_by.new.self.items in
     let key : g.row.K.Denot × g.row.V.Denot → g.row.K.Denot = λ e. e.0 in
     let order : g.row.K.Denot × g.row.V.Denot → g.row.K.Denot × g.row.V.Denot → Bool = λ x y. is_lt (R x.0 y.0) in
@@ -24,10 +24,10 @@ returns-clause-last g c =
     let as_long : length ys ≡ length c.reverse.new.self.items = search rules in
     let kept = dedup_same _ (λ x y. g.K.PartialEq.eq x.0 y.0) _ (λ x y b f' x' y' k. search rules) _ _ c.dedup_by.ensures.filtered in
     kept ∙ (λ i. dedup (λ x y. g.met.K.Ord.matches_eq x.0 y.0 i) ys)
-    ∙ last_words_are R g.met.K.Ord.total c.requires c.args.log.items ys (as_long ∙ ap length turned) sorted (λ x. stable x ∙ ap (filter (ties (λ a b. is_lt (R a.0 b.0)) x)) turned)
+    ∙ last_words_are R g.met.K.Ord.total c.requires c.args.log.now.items ys (as_long ∙ ap length turned) sorted (λ x. stable x ∙ ap (filter (ties (λ a b. is_lt (R a.0 b.0)) x)) turned)
 
 pub returns-then-rises-clause-last : goal.returns-then-rises-clause-last
 returns-then-rises-clause-last g c =
     let R = g.K.Ord.cmp in
-    let is : c.rises.result ≡ is_sorted R c.args.log.items = c.rises.ensures ∙ ap (is_sorted R) c.deref.ensures.value in
-    log_sorted R g.met.K.Ord.total c.requires c.args.log.items (subst T (sym c.if-rises.true ∙ is) tt)
+    let is : c.rises.result ≡ is_sorted R c.args.log.now.items = c.rises.ensures ∙ ap (is_sorted R) c.deref.ensures.value in
+    log_sorted R g.met.K.Ord.total c.requires c.args.log.now.items (subst T (sym c.if-rises.true ∙ is) tt)
