@@ -80,7 +80,7 @@ module _ (catalogue : Catalogue) (feeder : Feeder) (is : IsFeederOf catalogue fe
 -- ---- a put
 
 module _ {E : Type 0} where
-  same_terms : (r : Result (Unit {0}) E) (old new : TableState) (batch after : List Command) (command : Command) → OnOk r (new ≡ record old { contents = next old.schema old.contents command }) → OnErr r ((new ≡ old) × (after ≡ batch))
+  pub same_terms : (r : Result (Unit {0}) E) (old new : TableState) (batch after : List Command) (command : Command) → OnOk r (new ≡ record old { contents = next old.schema old.contents command }) → OnErr r ((new ≡ old) × (after ≡ batch))
       → (new.schema ≡ old.schema) × (new.limits ≡ old.limits) × (new.published ≡ old.published)
   same_terms (Ok u) old new batch after command ok err = (ap (λ (t : TableState). t.schema) ok, ap (λ (t : TableState). t.limits) ok, ap (λ (t : TableState). t.published) ok)
   same_terms (Err e) old new batch after command ok err = (ap (λ (t : TableState). t.schema) err.0, ap (λ (t : TableState). t.limits) err.0, ap (λ (t : TableState). t.published) err.0)

@@ -8,3 +8,5 @@ pub mod Shares
 pub mod Growth
 pub mod Installs
 pub mod Openings
+pub mod Tying
+pub mod Wholes

@@ -7,4 +7,5 @@ pub mod Settings
 pub mod Spread
 pub mod States
 pub mod Stacks
+pub mod Tied
 pub mod Turns

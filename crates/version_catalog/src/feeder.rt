@@ -25,7 +25,8 @@ pub struct Feeder {
 }
 
 impl Feeder {
-    ghost use Rattle.version_catalog.specs.Seats.{feeder_table, feeder_batch, feeder_journal, feeder_turns, feeder_sessions, KeepsSeat};
+    ghost use Rattle.version_catalog.specs.Seats.{feeder_table, feeder_batch, feeder_journal, feeder_turns, feeder_sessions, IsFeederOf, KeepsSeat};
+    ghost use Rattle.version_catalog.specs.declared.catalogue.Catalogue.{Catalogue};
 
     /// Takes a command as its table does, which then joins the batch. After a refusal table and batch are
     /// as before.
@@ -38,6 +39,7 @@ impl Feeder {
             ⊎ (refuses (feeder_table self.old).schema (feeder_table self.old).limits (feeder_table self.old).contents command.now ≡ Some refusal)) }
         ensures err { OnErr result ((feeder_table self.new ≡ feeder_table self.old) × (feeder_batch self.new ≡ feeder_batch self.old)) }
         ensures seat { KeepsSeat self.old self.new }
+        ensures of { (catalogue : Catalogue) → IsFeederOf catalogue self.old → IsFeederOf catalogue self.new }
     {
         add(&mut self.table, &mut self.batch, command)
     }

@@ -20,6 +20,7 @@ mod settings;
 mod stacks;
 mod state;
 pub mod turns;
+mod whole;
 
 pub use batch::Batch;
 pub use catalogue::Catalogue;

@@ -5,7 +5,7 @@ use Rattle.layer_stack.specs.Postings.{putting_all}
 use Rattle.forward_data.specs.Records.{records_of}
 use Rattle.shard_index.specs.Rows.{ShardChanges, stack_rows}
 use Rattle.shard_index.proofs.StackLaws.{merged_stands}
-use Rattle.version_catalog.proofs.compact.merged.Goals as goal
+use Rattle.version_catalog.proofs.whole.merged.Goals as goal
 
 pub returns : goal.returns
 returns c =
