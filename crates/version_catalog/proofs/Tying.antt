@@ -59,17 +59,19 @@ module _ (old new : CatalogueState) (settings : SettingsState) (core : State (Li
 
 pub turns_are_steps : TurnsAreSteps
 turns_are_steps = record {
-  publishes = λ old new settings core batch layers tied accepts fit below has.
-    (record core { journal = core.journal ++ batch ∷ []; seen = with_number core.seen feeder (length core.journal + 1) },
+  publishes = λ old new settings core batch layers tied accepts fit below has. (
+    record core { journal = core.journal ++ batch ∷ []; seen = with_number core.seen feeder (length core.journal + 1) },
     (ap Some (has.publishes ∙ ap (λ n. n + 1) tied.journal.publishes), refl),
     record {
       journal = state_gains old settings core.journal tied.journal batch layers fit new has accepts below;
       covered = λ stack. ap (λ cs. get_or cs stack 0) has.covered ∙ tied.covered stack;
-    });
-  installs = λ old new settings core v s r covers layer tied base has.
-    (record core { covered = with_number core.covered (stack_in old v s r) (max (core.covered (stack_in old v s r)) covers) },
+    },
+  );
+  installs = λ old new settings core v s r covers layer tied base has. (
+    record core { covered = with_number core.covered (stack_in old v s r) (max (core.covered (stack_in old v s r)) covers) },
     (base.within, refl, refl),
-    install_ties old new settings core v s r covers layer tied base has);
+    install_ties old new settings core v s r covers layer tied base has,
+  );
   pins = λ state settings core seat tied.
-    (record core { seen = with_number core.seen seat (length core.journal) }, (ap Some tied.journal.publishes, refl), record { journal = tied.journal; covered = tied.covered });
+      (record core { seen = with_number core.seen seat (length core.journal) }, (ap Some tied.journal.publishes, refl), record { journal = tied.journal; covered = tied.covered });
 }

@@ -52,11 +52,7 @@ fn shared(alloc: Global, index: &ShardIndex) -> Result<ShardLayer, AllocError>
     let entities = index.merge_entities(alloc, 1)?;
     let postings = Arc::try_clone(index.postings().layer(0))?;
     let forward = Arc::try_clone(index.forward_stack().layer(0))?;
-    Ok(ShardLayer::join(
-        Arc::new(alloc, entities)?,
-        postings,
-        forward,
-    ))
+    Ok(ShardLayer::join(Arc::new(alloc, entities)?, postings, forward))
 }
 
 // All layers of a stack as one.
