@@ -1,2 +1,11 @@
 pub mod Core
 pub mod Examples
+pub mod Journals
+pub mod Refused
+pub mod Seats
+pub mod Settings
+pub mod Spread
+pub mod States
+pub mod Stacks
+pub mod Tied
+pub mod Turns

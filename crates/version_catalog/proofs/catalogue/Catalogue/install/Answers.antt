@@ -1,0 +1,26 @@
+use Rattle.turn_lock.specs.Seats.{seat_seen}
+use Rattle.version_catalog.specs.Journals.{batches}
+use Rattle.version_catalog.proofs.Histories.{batches_prefix, stands_after, stands_for}
+use Rattle.version_catalog.proofs.Installs.{base_later}
+use Rattle.version_catalog.proofs.catalogue.Catalogue.install.Goals as goal
+
+pub install_turn-installed-requires : goal.install_turn-installed-requires
+install_turn-installed-requires g c =
+    let settings = c.args.self.now.settings in
+    let after = stands_after c.enter-turn.result.value settings _ _ c.requires.of.history c.enter-turn.ensures.later c.enter-turn.ensures.value in (
+      settings,
+      batches (seat_seen c.enter-turn.new.seat),
+      after.1,
+      base_later settings.schema _ _ c.args.vertical c.args.shard c.args.replica c.args.covers c.args.base (batches_prefix _ _ c.enter-turn.ensures.later) c.requires.base,
+    )
+
+pub leave-requires-clause-value : goal.leave-requires-clause-value
+leave-requires-clause-value g c =
+    let settings = c.args.self.now.settings in
+    let after = stands_after c.enter-turn.result.value settings _ _ c.requires.of.history c.enter-turn.ensures.later c.enter-turn.ensures.value in
+    let base = base_later settings.schema _ _ c.args.vertical c.args.shard c.args.replica c.args.covers c.args.base (batches_prefix _ _ c.enter-turn.ensures.later) c.requires.base in
+    stands_for c.install_turn-installed.new.state settings (seat_seen c.enter-turn.new.seat) after.0
+    (c.install_turn-installed.ensures.keeps settings (batches (seat_seen c.enter-turn.new.seat)) after.1 base)
+
+pub returns-clause-later : goal.returns-clause-later
+returns-clause-later g c = rw c.leave.ensures.kept.1 (batches_prefix _ _ c.enter-turn.ensures.later)

@@ -1,0 +1,7 @@
+-- What a catalogue is opened with.
+use Rattle.uni_base.specs.declared.limits.Limits.{Limits}
+use Rattle.uni_schema.specs.Schema.{Declarations}
+
+pub record SettingsState : Type 0 where
+  pub schema : Declarations
+  pub limits : Limits

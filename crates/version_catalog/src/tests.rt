@@ -1,0 +1,108 @@
+//! A small catalogue, with a seat of each kind.
+ghost use Rattle.turn_lock.specs.Seats.{SeatRests};
+ghost use Rattle.version_catalog.specs.Seats.{IsFeederOf, IsCompactorOf, IsSessionOf};
+
+use crate::{Catalogue, Compactor, Feeder, Pinned, PublishRefusal, Session};
+use feed_reader::{FeedLine, read_feed_line};
+use std::alloc::Global;
+use std::sync::{Arc, Wait};
+use uni_base::{Limits, cut_at};
+use uni_schema::{HeaderReader, Schema};
+
+mod alike;
+mod noisy;
+mod scripts;
+mod threads;
+
+// Users in two shards of two replicas, and photos in one. A bar ends a line.
+const HEADER: &[u8] =
+    b"unicorn 2|vertical user 2 2|vertical photo 1 1|type friend user user both index|type lives word user target index|type tagged user photo source index|type shows photo user source forward|type blocked user user source index|deny blocked|begin";
+
+// More turns than a test takes.
+const MANY: u64 = 1_000_000;
+
+fn schema(alloc: Global) -> Option<Schema> {
+    let mut header = HeaderReader::new(alloc, Limits::standard());
+    let mut rest = HEADER;
+    for line_no in 1..=20 {
+        let (line, others) = cut_at(rest, b'|').unwrap_or((rest, b""));
+        match header.take(line_no, line) {
+            Ok(true) => return Some(header.schema()),
+            Ok(false) => rest = others,
+            Err(_) => return None,
+        }
+    }
+    None
+}
+
+// Whether a line is a change that the feeder of a catalogue takes.
+fn is_put(_catalogue: &Catalogue, feeder: &mut Feeder, line: &[u8]) -> bool
+    requires { IsFeederOf _catalogue.now feeder.old }
+    ensures { IsFeederOf _catalogue.now feeder.new }
+{
+    let Ok(FeedLine::Change(command)) = read_feed_line(feeder.table().schema(), line) else {
+        return false;
+    };
+    feeder.put(&command).is_ok()
+}
+
+// A catalogue with a seat of each kind.
+#[derive(Drop)]
+struct Opened {
+    catalogue: Catalogue,
+    feeder: Feeder,
+    compactor: Compactor,
+    session: Session,
+    ghost feeds: { IsFeederOf catalogue feeder },
+    ghost compacts: { IsCompactorOf catalogue compactor },
+    ghost asks: { IsSessionOf catalogue session },
+    ghost rests: { SeatRests session },
+}
+
+impl Opened {
+    fn new<R: Wait>(rt: &R, alloc: Global, limits: Limits) -> Option<Opened> {
+        let schema = Arc::new(alloc, schema(alloc)?).ok()?;
+        let (catalogue, mut feeder, compactor) = Catalogue::new(rt, alloc, schema, limits).ok()?;
+        let session = catalogue.session(&mut feeder);
+        Some(Opened {
+            catalogue,
+            feeder,
+            compactor,
+            session,
+        })
+    }
+
+    // Whether a line is a change that the feeder takes.
+    fn is_put(&mut self, line: &[u8]) -> bool {
+        is_put(&self.catalogue, &mut self.feeder, line)
+    }
+
+    fn publish<R: Wait>(&mut self, rt: &R) -> Option<Result<u64, PublishRefusal>> {
+        if self.feeder.turns() >= MANY {
+            return None;
+        }
+        Some(self.catalogue.publish(rt, &mut self.feeder))
+    }
+
+    fn pin<R: Wait>(&mut self, rt: &R) -> Option<Pinned> {
+        if self.session.turns() >= MANY {
+            return None;
+        }
+        self.catalogue.pin(rt, &mut self.session).ok()
+    }
+
+    // What a compaction answers, if there is such a stack.
+    fn compact<R: Wait>(&mut self, rt: &R, vertical: u16, shard: u32, replica: u32) -> Option<u64> {
+        let schema = self.feeder.table().schema();
+        if self.compactor.turns() >= MANY || vertical >= schema.verticals() {
+            return None;
+        }
+        let declared = schema.vertical(vertical);
+        if shard >= declared.shards || replica >= declared.replicas {
+            return None;
+        }
+        self.catalogue
+            .compact(rt, &mut self.compactor, vertical, shard, replica)
+            .ok()
+    }
+}

@@ -1,0 +1,136 @@
+//! Scripts, with a look at each stack after each step.
+ghost use Rattle.std.specs.Prelude.{◌≤◌, IfSome};
+
+use super::Opened;
+use super::alike::are_alike;
+use crate::PublishRefusal;
+use shard_index::Version;
+use std::alloc::Global;
+use std::process::Abort;
+use std::sync::Wait;
+use std::test::Fail;
+use uni_base::{Fields, Limits, read_between};
+
+// Eight entities, and twelve edges.
+const ROWS: &[u8] =
+    b"entity user 1 50;entity user 2 90;entity user 3 90;entity user 4 10;entity user 5 70;entity user 6 60;entity photo 101 5;entity photo 102 9;edge friend 1 2 public;edge friend 1 3 public;edge friend 1 5 public;edge lives rome 2 public;edge lives rome 4 public;edge lives rome 5 public;edge lives rome 6 public;edge tagged 2 101 public;edge tagged 3 102 public;edge tagged 5 102 public;edge shows 102 4 public;edge shows 102 1 public;publish 1";
+
+// `layers` and `entries` have a number for each stack, and `entries` are those of the newest layers.
+const COMPACTS: &[u8] =
+    b"layers 2 2 2 2 2;entries 7 7 6 6 6;publish 2;compact 0 0 1 2;layers 3 1 3 3 3;entries 0 7 0 0 0;publish 3;layers 4 2 4 4 4;compact 0 0 1 3;compact 1 0 0 3;layers 4 1 4 4 1;compact 0 0 0 3;compact 0 1 0 3;compact 0 1 1 3;layers 1 1 1 1 1;entries 7 7 6 6 6";
+
+const TIDIES: &[u8] =
+    b"publish 2;publish 3;publish 4;publish 5;publish 6;publish 7;publish 8;layers 9 9 9 9 9;compact 0 0 0 8;compact 0 1 0 8;compact 1 0 0 8;layers 1 9 1 9 1";
+
+// An edge is cut, an entity goes and comes at another rank, and edges end, with compactions in between.
+const CHANGES: &[u8] =
+    b"entity user 5 95;publish 2;entries 0 0 5 5 0;compact 0 1 1 2;gone 3;edge friend 1 4 public until 4;publish 3;entity user 3 9;edge friend 1 3 only;publish 4;compact 0 0 0 4;cut shows 102 4;publish 5;entries 0 0 0 0 1;publish 6";
+
+// The numbers of a step.
+fn number(fields: &mut Fields<'_>) -> Option<u64>
+    ensures { IfSome result (λ n. n ≤ 1000) }
+{
+    read_between(fields.next()?, 0, 1000)
+}
+
+// What is to be counted of a stack: its layers, or the entries of its newest one.
+fn count(version: &Version, stack_no: usize, word: &[u8]) -> Option<u64> {
+    let stack = version.stacks().get(stack_no)?;
+    if word == b"layers".as_slice() {
+        return Some(stack.layers() as u64);
+    }
+    let newest = stack.layers().checked_sub(1)?;
+    Some(stack.layer_entries(newest))
+}
+
+// Whether each stack has the count that is said.
+fn is_counted(version: &Version, word: &[u8], fields: &mut Fields<'_>) -> Option<bool> {
+    for stack_no in 0..version.stacks().len() {
+        if number(fields)? != count(version, stack_no, word)? {
+            return Some(false);
+        }
+    }
+    Some(true)
+}
+
+// Whether the newest version reads like one that no layers lead to.
+pub(super) fn is_newest_read<R: Wait>(rt: &R, alloc: Global, opened: &mut Opened) -> Option<bool> {
+    let pinned = opened.pin(rt)?;
+    let publishes = pinned.version().publishes();
+    let rebuilt = Version::of_table(alloc, opened.feeder.table(), publishes).ok()?;
+    are_alike(alloc, pinned.version(), &rebuilt)
+}
+
+fn is_compacted<R: Wait>(rt: &R, opened: &mut Opened, fields: &mut Fields<'_>) -> Option<bool> {
+    let vertical = number(fields)? as u16;
+    let shard = number(fields)? as u32;
+    let replica = number(fields)? as u32;
+    Some(opened.compact(rt, vertical, shard, replica)? == number(fields)?)
+}
+
+// Makes a step: a publish, a compaction, a look, or a change. After a publish and a compaction the newest
+// version reads like one that no layers lead to.
+fn is_made<R: Wait>(rt: &R, alloc: Global, opened: &mut Opened, step: &[u8]) -> Option<bool> {
+    let mut fields = Fields::of(step);
+    let word = fields.next()?;
+    if word == b"publish".as_slice() {
+        let answer = opened.publish(rt)?;
+        return Some(answer == Ok(number(&mut fields)?) && is_newest_read(rt, alloc, opened)?);
+    }
+    if word == b"compact".as_slice() {
+        let is_compacted = is_compacted(rt, opened, &mut fields)?;
+        return Some(is_compacted && is_newest_read(rt, alloc, opened)?);
+    }
+    if word == b"layers".as_slice() || word == b"entries".as_slice() {
+        return is_counted(opened.pin(rt)?.version(), word, &mut fields);
+    }
+    Some(opened.is_put(step))
+}
+
+fn follow<R: Wait + Abort>(rt: &R, alloc: Global, opened: &mut Opened, script: &[u8]) {
+    for (step_no, step) in script.split(|byte| *byte == b';').enumerate() {
+        assert!(rt;
+            is_made(rt, alloc, opened, step) == Some(true),
+            "at {step_no}"
+        );
+    }
+}
+
+fn follow_all<R: Wait + Abort>(rt: &R, alloc: Global, script: &[u8]) -> Result<(), Fail> {
+    let mut opened = Opened::new(rt, alloc, Limits::standard()).ok_or("no catalogue")?;
+    follow(rt, alloc, &mut opened, ROWS);
+    follow(rt, alloc, &mut opened, script);
+    Ok(())
+}
+
+#[test]
+fn layers_by_publishes_and_compactions(rt: HostRuntime) -> Result<(), Fail> {
+    follow_all(&rt, rt.alloc(), COMPACTS)?;
+    follow_all(&rt, rt.alloc(), TIDIES)?;
+    follow_all(&rt, rt.alloc(), CHANGES)
+}
+
+// At the limit a publish is refused, and the pending batch stays; pins and compactions go on.
+#[test]
+fn a_publish_at_the_limit(rt: HostRuntime) -> Result<(), Fail> {
+    let alloc = rt.alloc();
+    let mut limits = Limits::standard();
+    limits.publishes = 2;
+    let mut opened = Opened::new(&rt, alloc, limits).ok_or("no catalogue")?;
+    follow(
+        &rt,
+        alloc,
+        &mut opened,
+        b"publish 1;publish 2;entity user 7 8",
+    );
+    assert!(rt; opened.publish(&rt) == Some(Err(PublishRefusal::TooMany(2))));
+    assert!(rt; opened.feeder.table().entities() == 1 && opened.feeder.sessions() == 1);
+    follow(
+        &rt,
+        alloc,
+        &mut opened,
+        b"layers 3 3 3 3 3;entries 0 0 0 0 0",
+    );
+    assert!(rt; opened.compact(&rt, 1, 0, 0) == Some(2));
+    Ok(())
+}

@@ -1,0 +1,84 @@
+//! One layer that by itself stands for a shard of a version.
+ghost use Rattle.std.specs.Prelude.{◌≡◌, ◌<◌, [], ◌∷◌, length, IfOk, IfSome};
+ghost use Rattle.shard_index.specs.Places.{IsStack, shards_in};
+ghost use Rattle.shard_index.specs.Rows.{no_rows, layer_of, layer_over, stack_rows};
+ghost use Rattle.shard_index.specs.Versions.{StandsAt};
+
+use forward_data::ForwardLayer;
+use layer_merge::{merge_forward, merge_front};
+use layer_stack::Layer;
+use shard_index::{EntityLayer, ShardIndex, ShardLayer, Version};
+use std::alloc::{AllocError, Global};
+use std::sync::Arc;
+
+/// The one layer of a replica that has no other, if there is such a one; else the layers of this replica merged.
+pub(crate) fn whole(
+    alloc: Global,
+    version: &Version,
+    vertical: u16,
+    shard: u32,
+    replica: u32,
+) -> Result<ShardLayer, AllocError>
+    requires { IsStack version.now.schema vertical shard replica }
+    ensures { IfOk result (λ layer. StandsAt version.now (layer ∷ []) vertical shard) }
+{
+    match single(version, vertical, shard) {
+        Some(index) => shared(alloc, index),
+        None => merged(alloc, version.shard(vertical, shard, replica)),
+    }
+}
+
+// The first replica of a shard whose stack is one layer.
+fn single(version: &Version, vertical: u16, shard: u32) -> Option<&ShardIndex>
+    requires vertical { vertical < length version.now.schema.verticals }
+    requires shard { shard < shards_in version.now.schema vertical }
+    ensures one { IfSome result (λ index. length index.now.0 ≡ 1) }
+    ensures rows { IfSome result (λ index. StandsAt version.now index.now.0 vertical shard) }
+{
+    for replica in 0..version.schema().vertical(vertical).replicas {
+        let index = version.shard(vertical, shard, replica);
+        if index.layers() == 1 {
+            return Some(index);
+        }
+    }
+    None
+}
+
+// The layer of a stack that has no other, over the same postings and records.
+fn shared(alloc: Global, index: &ShardIndex) -> Result<ShardLayer, AllocError>
+    requires { length index.now.0 ≡ 1 }
+    ensures { IfOk result (λ layer. layer_over no_rows layer ≡ stack_rows index.now.0) }
+{
+    let entities = index.merge_entities(alloc, 1)?;
+    let postings = Arc::try_clone(index.postings().layer(0))?;
+    let forward = Arc::try_clone(index.forward_stack().layer(0))?;
+    Ok(ShardLayer::join(Arc::new(alloc, entities)?, postings, forward))
+}
+
+// All layers of a stack as one.
+fn merged(alloc: Global, index: &ShardIndex) -> Result<ShardLayer, AllocError>
+    ensures { IfOk result (λ layer. layer_over no_rows layer ≡ stack_rows index.now.0) }
+{
+    let count = index.layers();
+    let entities = index.merge_entities(alloc, count)?;
+    let postings = merge_front(alloc, index.postings(), count)?;
+    let forward = merge_forward(alloc, index.forward_stack(), count)?;
+    let layer = joined(alloc, entities, postings, forward)?;
+    Ok(layer)
+}
+
+// The layer of three parts.
+fn joined(
+    alloc: Global,
+    entities: EntityLayer,
+    postings: Layer,
+    forward: ForwardLayer,
+) -> Result<ShardLayer, AllocError>
+    ensures { IfOk result (λ layer. layer ≡ layer_of entities postings forward) }
+{
+    Ok(ShardLayer::join(
+        Arc::new(alloc, entities)?,
+        Arc::new(alloc, postings)?,
+        Arc::new(alloc, forward)?,
+    ))
+}
