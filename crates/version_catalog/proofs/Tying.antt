@@ -1,14 +1,14 @@
 -- Turns as steps of the core of versions.
-use Rattle.std.proofs.Common.{◌≡◌, ◌≢◌, ◌⊎◌, inl, inr, ℕ, ◌+◌, ◌<◌, ◌≤◌, ◌==◌, Bool, true, false, cond, List, [], ◌∷◌, ◌++◌, length, get_or, set, max, Some, refl, sym, ◌∙◌, ap, subst, arith, eqb, length-append}
+use Rattle.std.proofs.Common.{◌≡◌, ◌≢◌, ◌⊎◌, inl, inr, ℕ, ◌+◌, ◌<◌, ◌≤◌, Bool, true, false, cond, List, [], ◌∷◌, ◌++◌, length, get_or, set, max, Some, refl, sym, ◌∙◌, ap, subst, arith, eqb}
 use Rattle.std.proofs.lemmas.Bool.Decides.{eqb_tells}
 use Rattle.std.proofs.lemmas.List.{get_or-set_same, get_or-set_other}
 use Rattle.uni_schema.specs.Schema.{Declarations}
 use Rattle.uni_table.specs.declared.command.Command.{Command}
 use Rattle.shard_index.specs.Places.{stack_no}
 use Rattle.shard_index.specs.Rows.{ShardChanges}
-use Rattle.version_catalog.specs.Core.{State, Step, publish, pin, install, feeder, with_number}
+use Rattle.version_catalog.specs.Core.{State, feeder, with_number}
 use Rattle.version_catalog.specs.Settings.{SettingsState}
-use Rattle.version_catalog.specs.States.{version_in, covered_in, StateStands}
+use Rattle.version_catalog.specs.States.{covered_in}
 use Rattle.version_catalog.specs.Tied.{IsTied, TurnsAreSteps}
 use Rattle.version_catalog.specs.Turns.{IsBase, HasInstalled, stack_in}
 use Rattle.version_catalog.specs.declared.state.CatalogueState.{CatalogueState}

@@ -1,5 +1,5 @@
 -- A stack of one layer.
-use Rattle.std.proofs.Common.{◌≡◌, List, [], ◌∷◌, map, take, length, Some, sym, ap, ◌∙◌, arith, slice_get}
+use Rattle.std.proofs.Common.{◌≡◌, List, [], ◌∷◌, map, take, length, Some, ap, ◌∙◌, arith, slice_get}
 use Rattle.std.specs.Cmp.{nat_cmp_total}
 use Rattle.std.specs.FinMap as finite
 use Rattle.layer_base.specs.Layers.{layer_over as table_over, stack_table}
