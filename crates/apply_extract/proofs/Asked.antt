@@ -1,5 +1,5 @@
 -- What shards have answered.
-use Rattle.std.proofs.Common.{◌≡◌, ◌<◌, ◌+◌, ℕ, zero, suc, List, [], ◌∷◌, ◌++◌, Some, length, slice_get, refl, subst, sym, arith}
+use Rattle.std.proofs.Common.{◌≡◌, ◌+◌, ℕ, suc, List, [], ◌∷◌, ◌++◌, Some, length, slice_get, refl, subst, sym, arith}
 use Rattle.std.specs.declared.result.Result.{Result}
 use Rattle.std.specs.declared.result.Result.TheVariants.{Err, Ok}
 use Rattle.std.specs.Result.{IfOk}
@@ -19,9 +19,10 @@ module _ (version : VersionState) (vertical limit : ℕ) (query : ℕ → Resolu
   pub first_each : (shard : ℕ) (parts : List (List RawHit)) → ((i : ℕ) (part : List RawHit) → slice_get parts i ≡ Some part → AreFirst version vertical (shard + i) limit (query (shard + i)) part)
       → AllFirst version vertical shard limit query parts
   first_each shard [] each = tt
-  first_each shard (part ∷ parts) each =
-      (subst (λ n. AreFirst version vertical n limit (query n) part) (let e : shard + 0 ≡ shard = omega arith in e) (each 0 part refl)
-      , first_each (shard + 1) parts (λ i x found. subst (λ n. AreFirst version vertical n limit (query n) x) (let e : shard + suc i ≡ shard + 1 + i = omega arith in e) (each (suc i) x found)))
+  first_each shard (part ∷ parts) each = (
+    subst (λ n. AreFirst version vertical n limit (query n) part) (let e : shard + 0 ≡ shard = omega arith in e) (each 0 part refl),
+    first_each (shard + 1) parts (λ i x found. subst (λ n. AreFirst version vertical n limit (query n) x) (let e : shard + suc i ≡ shard + 1 + i = omega arith in e) (each (suc i) x found)),
+  )
 
   pub first_all : (parts : List (List RawHit)) → ((i : ℕ) (part : List RawHit) → slice_get parts i ≡ Some part → AreFirst version vertical i limit (query i) part) → AllFirst version vertical 0 limit query parts
   first_all parts each = first_each 0 parts (λ i part found. subst (λ n. AreFirst version vertical n limit (query n) part) (let e : i ≡ 0 + i = omega arith in e) (each i part found))

@@ -1,12 +1,11 @@
 -- What is seen of queries whose joins are answered.
-use Rattle.std.proofs.Common.{rules, ◌≡◌, ◌<◌, ◌≤◌, ◌+◌, ℕ, zero, suc, List, [], ◌∷◌, ◌++◌, Vec, Global, length, map, get_or, arith}
+use Rattle.std.proofs.Common.{rules, ◌≡◌, ◌<◌, ◌≤◌, ◌+◌, ℕ, zero, suc, List, [], ◌∷◌, Vec, Global, length, map, get_or, arith}
 use Rattle.query_tree.specs.declared.kind.ListKind.{ListKind}
-use Rattle.query_tree.specs.declared.query.Mark.{Mark}
 use Rattle.shard_eval.specs.declared.resolved.InnerHit.{InnerHit}
 use Rattle.shard_eval.specs.declared.resolved.Resolved as nodes
 use Rattle.shard_eval.specs.declared.resolved.Resolved.TheFolds.{fold_out-Resolved}
 use Rattle.shard_eval.specs.declared.resolved.Resolved.TheViews.{the_lemmas as the_views}
-use Rattle.shard_eval.specs.Resolution.{Resolution, joined_node, list_node, listed_node, nodes_of, resolution}
+use Rattle.shard_eval.specs.Resolution.{joined_node, list_node, listed_node, nodes_of, resolution}
 use Rattle.shard_eval.proofs.ResolvedNodes.{size, sizes}
 use Rattle.apply_extract.specs.declared.answered.Answered as answers
 use Rattle.apply_extract.specs.declared.answered.AnsweredOperand.{AnsweredOperand}

@@ -1,7 +1,6 @@
 -- Joins that are answered stand for the plans of joins.
-use Rattle.std.proofs.Common.{◌≡◌, ◌<◌, ◌≤◌, ◌+◌, ℕ, zero, suc, Bool, true, List, [], ◌∷◌, ◌++◌, Vec, Global, All, map, length, get_or, slice_get, refl, sym, ◌∙◌, ap, subst, arith}
-use Rattle.std.proofs.lemmas.List.Elements.{All-cons, All-head, All-map, All-nil, All-tail}
-use Rattle.uni_base.specs.declared.entity.DocKey.{DocKey}
+use Rattle.std.proofs.Common.{◌≡◌, ◌<◌, ℕ, zero, suc, List, [], ◌∷◌, ◌++◌, Vec, Global, All, map, get_or, refl, sym, ◌∙◌, ap, subst, arith}
+use Rattle.std.proofs.lemmas.List.Elements.{All-cons, All-head, All-nil, All-tail}
 use Rattle.uni_base.specs.Cursors.{IsRanked}
 use Rattle.uni_schema.specs.Schema.{Declarations}
 use Rattle.uni_table.specs.Contents.{Contents}
@@ -76,7 +75,6 @@ pub led_more : (schema : Declarations) (table : Contents) (number shards : ℕ) 
     → AreListed schema number shards (led ++ l ∷ []) table
 led_more schema table number shards led l are edges shard below = more led (are shard below)
   where
-
     more : (ls : List Led) → All (λ (listing : Listing). listing.rows ≡ edges_into schema table number shard listing.hit.key) (map (listing_in shard) ls)
         → All (λ (listing : Listing). listing.rows ≡ edges_into schema table number shard listing.hit.key) (map (listing_in shard) (ls ++ l ∷ []))
     more [] all =

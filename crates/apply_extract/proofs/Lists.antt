@@ -1,25 +1,25 @@
 -- Operands of lists: how they are typed, and what they stand for with one more.
-use Rattle.std.proofs.Common.{rules, ◌≡◌, ◌<◌, ◌≤◌, ◌+◌, ℕ, zero, suc, List, [], ◌∷◌, ◌++◌, map, length, get_or, refl, sym, ◌∙◌, ap, subst, arith}
+use Rattle.std.proofs.Common.{rules, ◌≡◌, ◌<◌, ℕ, zero, suc, List, [], ◌∷◌, ◌++◌, map, length, get_or, refl, sym, ◌∙◌, ap, subst, arith}
 use Rattle.std.proofs.lemmas.List.{append_assoc, append-nil, length-append, length-map, map-append}
 use Rattle.uni_schema.specs.Schema.{Declarations}
 use Rattle.uni_table.specs.Contents.{Contents}
 use Rattle.query_tree.specs.declared.kind.ListKind.{ListKind}
 use Rattle.query_tree.specs.declared.query.Mark.{Mark}
 use Rattle.query_check.specs.declared.checked.CheckedOperand.{CheckedOperand}
-use Rattle.query_check.specs.Plan.{Plan, Plans, SeenOperand, Stated, all_inner, operands_seen, plans_of, seen_list, seen_operand, list_plan}
-use Rattle.query_check.specs.Verticals.{AreOf, AreStated, IsOf}
+use Rattle.query_check.specs.Plan.{SeenOperand, Stated, all_inner, operands_seen, plans_of, seen_list, seen_operand, list_plan}
+use Rattle.query_check.specs.Verticals.{AreOf, AreStated}
 use Rattle.uni_meaning.proofs.Typed.{list_of}
 use Rattle.lineage_tree.specs.Lists.{lists_of}
 use Rattle.lineage_tree.specs.Tree.{Tree}
 use Rattle.shard_eval.specs.Kept.{IsShare}
 use Rattle.shard_eval.specs.Meant.{AllStandFor, StandsFor as IsMeant}
-use Rattle.shard_eval.specs.Resolution.{Resolution, Resolutions, nodes_of, no_nodes, with_node, list_node, AreReady, IsReady}
+use Rattle.shard_eval.specs.Resolution.{Resolution, nodes_of, list_node, AreReady}
 use Rattle.apply_extract.specs.declared.answered.AnsweredOperand.{AnsweredOperand}
 use Rattle.apply_extract.specs.Answered.{answered_in, in_place, operand_in, AreReadyIn, IsReadyIn}
 use Rattle.apply_extract.specs.declared.answered.Answered.TheFolds.{fold_out-AnsweredOperand}
 use Rattle.apply_extract.specs.declared.answered.Answered.TheViews.{the_lemmas}
 use Rattle.apply_extract.specs.Booked.{all_booked, booked, lists_each, tree_in}
-use Rattle.apply_extract.specs.Conditions.{AreTyped, HasShares, HaveShares, IsTyped}
+use Rattle.apply_extract.specs.Conditions.{AreTyped, HaveShares, IsTyped}
 use Rattle.apply_extract.specs.Hits.{AreAnswered, Book, IsAnswered}
 
 -- ---- a typed list has typed operands

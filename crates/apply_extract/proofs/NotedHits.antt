@@ -1,5 +1,5 @@
 -- Hits whose trees a book gains.
-use Rattle.std.proofs.Common.{◌≡◌, ◌<◌, ◌≤◌, ◌+◌, ℕ, zero, suc, Bool, true, List, [], ◌∷◌, ◌++◌, All, map, length, get_or, refl, sym, ◌∙◌, ap, subst, arith}
+use Rattle.std.proofs.Common.{◌≡◌, ◌<◌, ◌+◌, ℕ, suc, true, List, [], ◌∷◌, ◌++◌, All, map, length, get_or, refl, sym, ◌∙◌, ap, subst, arith}
 use Rattle.std.proofs.Math.ListN.{get_or-append}
 use Rattle.std.proofs.Math.Seq.{get_or-append_seam}
 use Rattle.std.proofs.lemmas.List.{append_assoc, append-nil, length-append, length-map, map-append}
@@ -17,10 +17,10 @@ use Rattle.lineage_tree.specs.Tree.{Tree, any_of, no_members, tree_of}
 use Rattle.lineage_tree.proofs.EntryLemmas.{lists_of_agree, names_below-more}
 use Rattle.rack_aggregate.specs.Merged.{keys_of}
 use Rattle.shard_eval.specs.declared.resolved.InnerHit.{InnerHit}
-use Rattle.shard_eval.specs.Meant.{filled, AreOfCut}
+use Rattle.shard_eval.specs.Meant.{filled}
 use Rattle.shard_eval.specs.PlanTrees.{plan_tree}
-use Rattle.apply_extract.specs.Booked.{booked, lists_each, tree_in, GainsTrees, WhereBooked}
-use Rattle.apply_extract.specs.Hits.{AreCut, AreInner, Book, cut_booked, numbered, with_hits}
+use Rattle.apply_extract.specs.Booked.{booked, lists_each, tree_in}
+use Rattle.apply_extract.specs.Hits.{AreCut, AreInner, Book, numbered, with_hits}
 use Rattle.apply_extract.specs.Shown.{NameEntries}
 use Rattle.apply_extract.proofs.Entries.{lists_filled, names_known, told_at, trees_count, trees_for, trees_told}
 

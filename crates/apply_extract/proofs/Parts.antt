@@ -1,7 +1,7 @@
 -- The hits of a plan, shard by shard and over all shards.
-use Rattle.std.proofs.Common.{◌≡◌, ◌<◌, ◌≤◌, ◌+◌, ◌||◌, ℕ, zero, suc, Bool, true, false, if◌then◌else◌, List, [], ◌∷◌, ◌++◌, All, map, take, length, filter, refl, sym, ◌∙◌, ap, subst, arith, true≢false}
+use Rattle.std.proofs.Common.{◌≡◌, ◌<◌, ◌+◌, ◌||◌, ℕ, zero, suc, Bool, true, false, if◌then◌else◌, List, [], ◌∷◌, ◌++◌, All, map, take, length, refl, sym, ◌∙◌, ap, subst, arith}
 use Rattle.std.proofs.lemmas.List.{take-map}
-use Rattle.std.proofs.lemmas.List.Elements.{All-append, All-cons, All-head, All-nil, All-tail, All-take, recursion_from_All}
+use Rattle.std.proofs.lemmas.List.Elements.{All-append, All-cons, All-head, All-nil, All-tail, All-take}
 use Rattle.std.specs.List.{AllByRecursion, flat_map, list_any, range_with_len}
 use Rattle.std.specs.Ordering.{is_eq, is_lt}
 use Rattle.uni_base.specs.declared.entity.DocKey.{DocKey}
@@ -14,17 +14,16 @@ use Rattle.uni_schema.specs.Schema.{Declarations, shard_of}
 use Rattle.uni_table.specs.Contents.{Contents}
 use Rattle.uni_table.specs.Ranked.{in_rank_order, ranked}
 use Rattle.uni_table.specs.TableState.{IsKept}
-use Rattle.query_check.specs.Plan.{Plan, Plans, term_plan, prefix_plan, list_plan, join_plan}
+use Rattle.query_check.specs.Plan.{Plan, term_plan, prefix_plan, list_plan, join_plan}
 use Rattle.query_check.specs.Verticals.{IsOf}
-use Rattle.uni_meaning.specs.Hits.{cut, hits, first_vertical, leads_to, operands, shards_of, vertical_of}
-use Rattle.uni_meaning.proofs.Typed.{vertical_is}
+use Rattle.uni_meaning.specs.Hits.{cut, hits, first_vertical, operands, shards_of, vertical_of}
 use Rattle.lineage_tree.specs.declared.lineage.RawHit.{RawHit}
 use Rattle.lineage_tree.specs.Tree.{Tree, any_of, no_members, tree_of}
 use Rattle.rack_aggregate.specs.Merged.{AreApart, all_hits, hits_in_rank_order, keys_of, place_hit}
 use Rattle.shard_index.specs.Shards.{shard_rows}
 use Rattle.shard_index.specs.Versions.{VersionState, Stands}
-use Rattle.shard_eval.specs.Found.{Found, found_all}
-use Rattle.shard_eval.specs.Meant.{filled, meant, seen_found, StandsFor as IsMeant}
+use Rattle.shard_eval.specs.Found.{found_all}
+use Rattle.shard_eval.specs.Meant.{filled, seen_found, StandsFor as IsMeant}
 use Rattle.shard_eval.specs.PlanTrees.{plan_tree}
 use Rattle.shard_eval.specs.Resolution.{Resolution, found}
 use Rattle.shard_eval.proofs.HitsWithin.{IsPartOf, filter_part, kept_part, later_true}

@@ -1,5 +1,5 @@
 -- Typed queries, by their nodes.
-use Rattle.std.proofs.Common.{◌≡◌, ◌<◌, ℕ, length, refl, sym, ◌∙◌, ap, subst}
+use Rattle.std.proofs.Common.{◌≡◌, ◌<◌, ℕ, length, sym, ◌∙◌, ap, subst}
 use Rattle.uni_schema.specs.Schema.{Declarations, IsSchema}
 use Rattle.uni_schema.specs.declared.schema.Origin.TheVariants.{Vertical}
 use Rattle.uni_schema.specs.declared.schema.Store.TheVariants.{Forward}

@@ -10,17 +10,18 @@ use Rattle.query_tree.specs.declared.dialect.Dialect.{Dialect}
 use Rattle.query_tree.specs.declared.kind.TermKind.{TermKind}
 use Rattle.query_tree.specs.declared.kind.TermKind.TheVariants as terms
 use Rattle.query_tree.specs.declared.kind.ListKind.{ListKind}
-use Rattle.query_tree.specs.declared.kind.JoinKind.{JoinKind}
 use Rattle.query_tree.specs.declared.query.Mark.{Mark}
 use Rattle.query_tree.specs.declared.query.Mark.TheVariants as marks
 use Rattle.query_tree.specs.Marks.{IsMarkValue}
 use Rattle.query_tree.specs.Tree.{Tree, Forest, term_at, list_at, join_at, no_operands, with_operand}
 use Rattle.query_tree.specs.Columns.{column_of}
 use Rattle.query_tree.specs.Within.{AreAllowed, IsAllowed}
-use Rattle.query_check.specs.Plan.{Plan, Stated, term_plan, prefix_plan, list_plan, join_plan, no_plans}
+use Rattle.query_check.specs.declared.checked.Checked.{Checked}
+use Rattle.query_check.specs.Plan.{Plan, Stated, inner_of, seen, stated_of, term_plan, prefix_plan, join_plan, no_plans}
+use Rattle.query_check.specs.Verticals.{AreStated, IsOf}
 use Rattle.query_check.specs.Typing.{Found, Mistyped, Operands, and_then, beginning, join_store, join_typed, leaf_plan, leaf_typed, list_typed, mistyped, of_operands, of_target, operands_typed, starts_at, is_other, type_kept, typed, with_first}
 use Rattle.shard_eval.specs.Kept.{IsShare}
-use Rattle.apply_extract.specs.Conditions.{HasShares, HaveShares}
+use Rattle.apply_extract.specs.Conditions.{HasShares, HaveShares, IsAsked}
 use Rattle.apply_extract.specs.Laws.{WithinHasShares}
 
 -- what stands before a result without a fault
@@ -101,3 +102,8 @@ module _ (dialect : Dialect) (schema : Declarations) (joins : ℕ) where
 
 pub within_has_shares : WithinHasShares
 within_has_shares = record { shares = λ dialect schema joins around tree stated is allowed. shares_of dialect schema joins around tree stated is allowed }
+
+-- so what a query that was read is found to be can be asked
+pub asked_of : (dialect : Dialect) (schema : Declarations) (joins : ℕ) (tree : Tree) (query : Checked) → typed schema joins 0 tree ≡ Ok (stated_of query) → IsOf schema (stated_of query).plan (stated_of query).vertical → AreStated schema (inner_of query)
+    → IsAllowed dialect tree → IsAsked schema (seen query)
+asked_of dialect schema joins tree query is of inner allowed = record { of = of; inner = inner; shares = shares_of dialect schema joins 0 tree (stated_of query) is allowed }

@@ -1,8 +1,8 @@
 -- Which hits a viewer is shown, by their trees.
-use Rattle.std.proofs.Common.{◌≡◌, ◌&&◌, ◌==◌, ℕ, Bool, true, false, if◌then◌else◌, cond, List, [], ◌∷◌, ◌++◌, Option, None, Some, All, map, filter, find, refl, sym, ◌∙◌, ap, subst}
+use Rattle.std.proofs.Common.{◌≡◌, ◌&&◌, ◌==◌, ℕ, Bool, true, false, if◌then◌else◌, List, [], ◌∷◌, ◌++◌, Option, None, Some, All, map, filter, refl, sym, ◌∙◌, ap}
 use Rattle.std.proofs.lemmas.List.{map-append}
 use Rattle.std.proofs.lemmas.List.Elements.{All-head, All-tail}
-use Rattle.std.specs.List.{AllByRecursion, cons_option, filter_map, flat_map, list_all}
+use Rattle.std.specs.List.{AllByRecursion, cons_option, filter_map, list_all}
 use Rattle.std.specs.Option.{option_map, option_map_or, option_or}
 use Rattle.uni_base.specs.declared.edge.Audience.{Audience}
 use Rattle.uni_base.specs.declared.edge.EdgeRef.{EdgeRef}
@@ -14,13 +14,12 @@ use Rattle.uni_schema.specs.Schema.{Declarations, owners_of}
 use Rattle.uni_table.specs.Contents.{Contents, audience_at}
 use Rattle.query_tree.specs.declared.kind.ListKind.TheVariants.{And, Or, Difference, WeakAnd, StrongOr}
 use Rattle.query_check.specs.Plan.{Plan, Plans, term_plan, prefix_plan, list_plan, join_plan, no_plans, with_plan}
-use Rattle.uni_meaning.specs.Firsts.{first_given, first_shown}
+use Rattle.uni_meaning.specs.Firsts.{first_shown}
 use Rattle.uni_meaning.specs.Hits.{cut, edge_to, is_hit, leads_to}
 use Rattle.uni_meaning.specs.Laws.{first_whole}
 use Rattle.uni_meaning.specs.Policy.{admits, authorised, denies, some_owner}
 use Rattle.uni_meaning.specs.Prefixes.{prefix_keys}
 use Rattle.uni_meaning.specs.Replies.{reply_of, shown_hit}
-use Rattle.uni_meaning.specs.declared.reply.Hit.{Hit}
 use Rattle.uni_meaning.proofs.Firsts.{first_is_first}
 use Rattle.lineage_tree.specs.declared.lineage.RawHit.{RawHit}
 use Rattle.lineage_tree.specs.Accepted.{edges_of, first_accepted}
@@ -31,7 +30,7 @@ use Rattle.viewer_policy.specs.Judged.{IsHeld, judged}
 use Rattle.shard_eval.specs.PlanTrees.{both_of, edge_tree, plan_tree, trees_each, trees_having, tree_first}
 use Rattle.shard_eval.proofs.TreeLineages.{tree_told}
 use Rattle.apply_extract.specs.Hits.{Book}
-use Rattle.apply_extract.specs.Shown.{accepted_hit, accepted_hits}
+use Rattle.apply_extract.specs.Shown.{accepted_hits}
 
 -- ---- every edge of a plan's tree is one of the table, with its audience
 

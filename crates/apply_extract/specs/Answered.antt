@@ -1,10 +1,9 @@
 -- A query whose joins are answered, and what it is in each shard.
-use Rattle.std.specs.Prelude.{ℕ, ◌≡◌, ◌<◌, All, List, [], ◌∷◌, map, get_or}
+use Rattle.std.specs.Prelude.{ℕ, ◌≡◌, ◌<◌, All, List, [], map, get_or}
 use Rattle.uni_base.specs.Cursors.{IsRanked}
 use Rattle.uni_schema.specs.Schema.{Declarations}
 use Rattle.uni_table.specs.Contents.{Contents}
 use Rattle.query_tree.specs.declared.query.Mark.{Mark}
-use Rattle.posting_lists.specs.declared.posting.Posting.{Posting}
 use Rattle.posting_lists.specs.Postings.{keys_of}
 use Rattle.shard_eval.specs.declared.resolved.InnerHit.{InnerHit}
 use Rattle.shard_eval.specs.Meant.{edges_into}

@@ -1,7 +1,6 @@
 -- The trees of inner hits, as the book of a query has them.
 use Rattle.std.specs.Prelude.{ℕ, ◌≡◌, List, [], ◌++◌, length, map, slice_index_or}
 use Rattle.uni_base.specs.declared.edge.Held.{Held}
-use Rattle.uni_base.specs.declared.limits.Limits.{Limits}
 use Rattle.uni_schema.specs.Schema.{Declarations}
 use Rattle.uni_table.specs.Contents.{Contents}
 use Rattle.query_check.specs.Plan.{Plan, Plans, term_plan, prefix_plan, list_plan, join_plan, no_plans, with_plan}

@@ -1,5 +1,5 @@
 -- The hits of a plan over all shards, with their trees, and what stands for a plan.
-use Rattle.std.specs.Prelude.{ℕ, ◌≡◌, ◌<◌, ◌+◌, ◌++◌, All, List, [], ◌∷◌, length, map}
+use Rattle.std.specs.Prelude.{ℕ, ◌≡◌, ◌<◌, ◌+◌, ◌++◌, All, List, [], ◌∷◌, map}
 use Rattle.uni_base.specs.declared.edge.Held.{Held}
 use Rattle.uni_base.specs.declared.limits.Limits.{Limits}
 use Rattle.uni_schema.specs.Schema.{Declarations}

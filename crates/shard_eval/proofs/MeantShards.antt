@@ -8,7 +8,6 @@ use Rattle.std.specs.Option.{option_map_or}
 use Rattle.query_check.specs.Plan.{Plan, Plans, term_plan, prefix_plan, list_plan, join_plan, no_plans, with_plan}
 use Rattle.query_check.specs.Verticals.{AreOf, IsOf, IsType}
 use Rattle.query_tree.specs.declared.kind.JoinKind.TheVariants.{Apply, Extract}
-use Rattle.query_tree.specs.declared.kind.ListKind.{ListKind}
 use Rattle.query_tree.specs.declared.kind.ListKind.TheVariants.{Or}
 use Rattle.lineage_tree.specs.Tree.{Tree}
 use Rattle.layer_stack.specs.Places.{term_of}
@@ -24,13 +23,12 @@ use Rattle.uni_base.proofs.RankedLemmas.{has_key-filter}
 use Rattle.uni_schema.specs.Schema.{Declarations, is_index, shard_of}
 use Rattle.uni_schema.specs.declared.schema.Origin.{Origin}
 use Rattle.uni_schema.specs.declared.schema.Origin.TheVariants.{Vertical, Words}
-use Rattle.uni_schema.specs.declared.schema.Store.{Store}
 use Rattle.uni_schema.specs.declared.schema.Store.TheVariants.{Index}
 use Rattle.uni_table.specs.Contents.{Contents}
 use Rattle.uni_table.specs.Ranked.{ranked, ranked_all}
 use Rattle.uni_table.specs.TableState.{IsKept}
 use Rattle.uni_table.proofs.Sharded.{shards_part}
-use Rattle.uni_meaning.specs.Hits.{leads_to, target_of, vertical_of}
+use Rattle.uni_meaning.specs.Hits.{leads_to, target_of}
 use Rattle.uni_meaning.proofs.Typed.{list_of, target_is, vertical_is}
 use Rattle.shard_index.specs.Laws.{posting_to, leads_to as is_indexed_to}
 use Rattle.shard_index.specs.Shards.{shard_rows}

@@ -1,7 +1,7 @@
 -- The trees of joined hits are small.
-use Rattle.std.proofs.Common.{◌≡◌, ◌≤◌, ◌+◌, ◌*◌, ◌||◌, ℕ, suc, Bool, true, false, List, [], ◌∷◌, Option, None, Some, All, map, filter, length, cond, if◌then◌else◌, is_some, refl, sym, ◌∙◌, ap, subst, arith}
+use Rattle.std.proofs.Common.{◌≡◌, ◌≤◌, ◌+◌, ◌*◌, ◌||◌, ℕ, Bool, true, false, List, [], ◌∷◌, Option, None, Some, All, map, filter, length, cond, if◌then◌else◌, refl, ap, arith}
 use Rattle.std.proofs.lemmas.List.Elements.{All-cons, All-nil}
-use Rattle.std.specs.List.{cons_option, filter_map, list_any}
+use Rattle.std.specs.List.{cons_option, list_any}
 use Rattle.query_tree.specs.declared.kind.ListKind.TheVariants.{Or}
 use Rattle.uni_base.specs.declared.entity.DocKey.{DocKey}
 use Rattle.posting_lists.specs.declared.posting.Posting.{Posting}

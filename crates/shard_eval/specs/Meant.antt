@@ -15,7 +15,7 @@ use Rattle.shard_index.specs.Laws.{posting_to}
 use Rattle.shard_eval.specs.declared.resolved.InnerHit.{InnerHit}
 use Rattle.shard_eval.specs.Found.{Found}
 use Rattle.shard_eval.specs.PlanTrees.{plan_tree}
-use Rattle.shard_eval.specs.Resolution.{Resolution, Resolutions, found, term_node, prefix_node, list_node, joined_node, listed_node, no_nodes, with_node}
+use Rattle.shard_eval.specs.Resolution.{Resolution, Resolutions, term_node, prefix_node, list_node, joined_node, listed_node, no_nodes, with_node}
 
 -- a tree with what entries name in their place
 abbrev mutual

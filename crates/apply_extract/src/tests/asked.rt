@@ -1,5 +1,5 @@
 //! Tables of a few lines, and questions that are asked of their versions in every way.
-ghost use Rattle.std.specs.Prelude.{◌≡◌, IfSome};
+ghost use Rattle.std.specs.Prelude.{◌≡◌, ◌<◌, IfSome};
 ghost use Rattle.apply_extract.specs.Conditions.{IsAsked, IsStanding};
 ghost use Rattle.query_check.specs.Plan.{seen};
 
@@ -59,6 +59,19 @@ pub(super) fn is_put(table: &mut Table, line: &[u8]) -> bool {
     table.put(&command).is_ok()
 }
 
+/// The version of a table.
+pub(super) fn version_of(alloc: Global, table: &Table) -> Option<Version>
+    ensures standing { IfSome result (λ version. IsStanding version) }
+    ensures same { IfSome result (λ version. version.schema ≡ table.now.schema) }
+{
+    // `schema` says that the table keeps what tables keep.
+    let _ = table.schema();
+    match Version::of_table(alloc, table, 1) {
+        Ok(version) => Some(version),
+        Err(_) => None,
+    }
+}
+
 // The query of a text under a schema.
 fn query(alloc: Global, schema: &Schema, text: &[u8]) -> Option<Checked>
     ensures { IfSome result (λ query. IsAsked schema.now (seen query)) }
@@ -102,7 +115,7 @@ pub(super) struct Question<'a> {
 }
 
 /// Reads `VIEWER LIMIT QUERY`.
-pub(super) fn question(text: &[u8]) -> Option<Question<'_>> {
+pub(super) fn read_question(text: &[u8]) -> Option<Question<'_>> {
     let (viewer, rest) = cut_at(text, b' ')?;
     let (limit, text) = cut_at(rest, b' ')?;
     Some(Question {
@@ -112,37 +125,72 @@ pub(super) fn question(text: &[u8]) -> Option<Question<'_>> {
     })
 }
 
+// Whether a query has a reply on one thread, whichever replicas are read.
+fn is_replied_here(
+    alloc: Global,
+    version: &Version,
+    query: &Checked,
+    question: &Question<'_>,
+    due: &Reply,
+) -> Option<bool>
+    requires standing { IsStanding version.now }
+    requires typed { IsAsked version.now.schema (seen query.now) }
+{
+    let Question { viewer, limit, .. } = question;
+    let first = answer_here(alloc, version, query, *viewer, *limit, 33, &FirstChooser).ok()?;
+    let turn = answer_here(alloc, version, query, *viewer, *limit, 33, &TurnChooser).ok()?;
+    let last = answer_here(alloc, version, query, *viewer, *limit, 34, &LastChooser).ok()?;
+    Some(are_same(due, &first) && are_same(due, &turn) && are_same(due, &last))
+}
+
+// Whether it has it by so many workers.
+fn is_replied_by(
+    rt: &(impl Threads + Wait + Sync),
+    alloc: Global,
+    workers: u32,
+    version: &Version,
+    query: &Checked,
+    question: &Question<'_>,
+    due: &Reply,
+) -> Option<bool>
+    requires standing { IsStanding version.now }
+    requires typed { IsAsked version.now.schema (seen query.now) }
+{
+    let Question { viewer, limit, .. } = question;
+    let reply = answer(
+        rt,
+        alloc,
+        version,
+        query,
+        *viewer,
+        *limit,
+        33,
+        workers,
+        &TurnChooser,
+        &OpenGate,
+    );
+    Some(are_same(due, &reply.ok()?))
+}
+
 /// Whether a question has one and the same reply of a table by the definitions, and of its version on one
-/// thread and on several, whichever replicas are read.
+/// thread and by so many workers.
 pub(super) fn is_answered(
     rt: &(impl Threads + Wait + Sync),
     alloc: Global,
+    workers: &[u32],
     table: &Table,
+    version: &Version,
     question: &Question<'_>,
-) -> Option<bool> {
-    let version = Version::of_table(alloc, table, 1).ok()?;
-    let query = query(alloc, table.schema(), question.text)?;
-    let Question { viewer, limit, .. } = question;
-    let due = plain_answer(alloc, table, 1, &query, *viewer, *limit).ok()?;
-    let first = answer_here(alloc, &version, &query, *viewer, *limit, 33, &FirstChooser).ok()?;
-    let turn = answer_here(alloc, &version, &query, *viewer, *limit, 33, &TurnChooser).ok()?;
-    let last = answer_here(alloc, &version, &query, *viewer, *limit, 34, &LastChooser).ok()?;
-    let mut same = are_same(&due, &first) && are_same(&due, &turn) && are_same(&due, &last);
-    for workers in [1_u32, 2, 64] {
-        let reply = answer(
-            rt,
-            alloc,
-            &version,
-            &query,
-            *viewer,
-            *limit,
-            33,
-            workers,
-            &TurnChooser,
-            &OpenGate,
-        )
-        .ok()?;
-        same &= are_same(&due, &reply);
+) -> Option<bool>
+    requires standing { IsStanding version.now }
+    requires same { version.now.schema ≡ table.now.schema }
+{
+    let query = query(alloc, version.schema(), question.text)?;
+    let due = plain_answer(alloc, table, 1, &query, question.viewer, question.limit).ok()?;
+    for workers in workers {
+        if !is_replied_by(rt, alloc, *workers, version, &query, question, &due)? {
+            return Some(false);
+        }
     }
-    Some(same)
+    is_replied_here(alloc, version, &query, question, &due)
 }

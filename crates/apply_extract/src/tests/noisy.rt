@@ -1,7 +1,9 @@
 //! Random questions over random tables.
-ghost use Rattle.std.specs.Prelude.{◌<◌};
+ghost use Rattle.std.specs.Prelude.{◌≡◌, ◌<◌};
+ghost use Rattle.apply_extract.specs.Conditions.{IsStanding};
 
-use super::asked::{Question, is_answered, is_put, nothing};
+use super::asked::{Question, is_answered, is_put, nothing, version_of};
+use shard_index::Version;
 use std::alloc::Global;
 use std::process::Abort;
 use std::sync::Wait;
@@ -94,13 +96,17 @@ fn write_query(noise: &mut Noise, kind: u8, depth: u32, text: &mut Vec<u8>) -> O
     Some(())
 }
 
-// Asks a query in every way.
+// A question.
 fn is_asked(
     rt: &(impl Threads + Wait + Sync),
     alloc: Global,
     table: &Table,
+    version: &Version,
     noise: &mut Noise,
-) -> Option<bool> {
+) -> Option<bool>
+    requires standing { IsStanding version.now }
+    requires same { version.now.schema ≡ table.now.schema }
+{
     let kind = if noise.below(3) == 0 { b'P' } else { b'U' };
     let mut text = Vec::new(alloc);
     write_query(noise, kind, 4, &mut text)?;
@@ -113,7 +119,33 @@ fn is_asked(
         limit,
         text: text.as_slice(),
     };
-    is_answered(rt, alloc, table, &question)
+    is_answered(rt, alloc, &[2], table, version, &question)
+}
+
+// A table of a hundred lines, of which some are refused.
+fn is_filled(alloc: Global, table: &mut Table, noise: &mut Noise) -> Option<()> {
+    for _ in 0..100 {
+        let line = line(alloc, noise)?;
+        is_put(table, line.as_slice());
+    }
+    Some(())
+}
+
+// How many questions are answered, of as many as are asked of one table.
+fn answered(
+    rt: &(impl Threads + Wait + Sync),
+    alloc: Global,
+    table: &Table,
+    noise: &mut Noise,
+    questions: u64,
+) -> Option<u64> {
+    let version = version_of(alloc, table)?;
+    for number in 0..questions {
+        if !is_asked(rt, alloc, table, &version, noise)? {
+            return Some(number);
+        }
+    }
+    Some(questions)
 }
 
 fn follow(
@@ -125,16 +157,9 @@ fn follow(
     for case in 0..tables {
         let mut noise = Noise { state: case };
         let mut table = nothing(alloc, header)?;
-        for _ in 0..100 {
-            let Some(line) = line(alloc, &mut noise) else {
-                return Err("no line")?;
-            };
-            is_put(&mut table, line.as_slice());
-        }
-        for number in 0..50 {
-            let is_asked = is_asked(rt, alloc, &table, &mut noise) == Some(true);
-            assert!(rt; is_asked, "case {case}, {number}");
-        }
+        assert!(rt; is_filled(alloc, &mut table, &mut noise).is_some());
+        let answered = answered(rt, alloc, &table, &mut noise, 50);
+        assert!(rt; answered == Some(50), "case {case}");
     }
     Ok(())
 }

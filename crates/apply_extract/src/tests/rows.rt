@@ -1,5 +1,5 @@
 //! Questions over a small table, each asked in every way.
-use super::asked::{is_answered, is_put, nothing, question};
+use super::asked::{is_answered, is_put, nothing, read_question, version_of};
 use std::alloc::Global;
 use std::process::Abort;
 use std::sync::Wait;
@@ -16,6 +16,20 @@ pub(super) const HEADER: &[u8] =
 const ROWS: &[u8] =
     b"entity user 1 50|entity user 2 90|entity user 3 90|entity user 4 10|entity user 5 70|entity user 6 60|entity photo 101 5|entity photo 102 9|edge friend 1 2 public|edge friend 1 3 public|edge friend 1 5 public|edge lives rome 2 public|edge lives rome 4 public|edge lives rome 5 public|edge lives rome 6 public|edge tagged 2 101 public|edge tagged 3 102 public|edge tagged 5 102 public|edge shows 102 4 public|edge shows 102 1 public";
 
+// Whether a question is answered over a table by one, two and many workers, and on one thread.
+fn is_asked(
+    rt: &(impl Threads + Wait + Sync),
+    alloc: Global,
+    table: &Table,
+    text: &[u8],
+) -> Option<bool> {
+    let Some(question) = read_question(text) else {
+        return None;
+    };
+    let version = version_of(alloc, table)?;
+    is_answered(rt, alloc, &[1, 2, 64], table, &version, &question)
+}
+
 // A step is a change, or `ask` and a question.
 fn is_met(
     rt: &(impl Threads + Wait + Sync),
@@ -24,10 +38,7 @@ fn is_met(
     step: &[u8],
 ) -> bool {
     match step.strip_prefix(b"ask ") {
-        Some(text) => match question(text) {
-            Some(question) => is_answered(rt, alloc, table, &question) == Some(true),
-            None => false,
-        },
+        Some(text) => is_asked(rt, alloc, table, text) == Some(true),
         None => is_put(table, step),
     }
 }

@@ -1,14 +1,12 @@
 use Rattle.std.proofs.Common.{◌≡◌, ◌+◌, ◌++◌, ◌∷◌, [], List, map, get_or, take, take-suc, suc, ap, sym, ◌∙◌, arith}
 use Rattle.std.proofs.lemmas.List.{map-append}
 use Rattle.query_tree.specs.declared.query.Mark.{Mark}
-use Rattle.shard_eval.specs.declared.resolved.InnerHit.{InnerHit}
 use Rattle.shard_eval.specs.declared.resolved.ResolvedOperand.{ResolvedOperand}
-use Rattle.shard_eval.specs.Resolution.{Resolution, joined_node, nodes_of, operand_of}
+use Rattle.shard_eval.specs.Resolution.{Resolution, nodes_of, operand_of}
 use Rattle.shard_eval.proofs.ResolvedNodes.{operand_is, size, sizes}
 use Rattle.apply_extract.specs.declared.answered.AnsweredOperand.{AnsweredOperand}
-use Rattle.apply_extract.specs.declared.answered.Answered.{Answered}
 use Rattle.apply_extract.specs.Answered.{answered_in, in_place, operand_in}
-use Rattle.apply_extract.proofs.InShards.{answered_joined, seen_joined, smaller_in}
+use Rattle.apply_extract.proofs.InShards.{smaller_in}
 use Rattle.apply_extract.proofs.Lists.{answered_operand}
 use Rattle.apply_extract.proofs.in_shard.+in_shard.Goals as goal
 

@@ -9,14 +9,14 @@ use Rattle.query_check.specs.declared.checked.CheckedOperand.{CheckedOperand}
 use Rattle.query_check.specs.Plan.{Plan, Seen, SeenOperand, operands_seen, plans_of, seen, seen_join, seen_node, seen_operand}
 use Rattle.uni_schema.specs.Schema.{Declarations, IsSchema}
 use Rattle.uni_meaning.proofs.PlaceStandings.{operand_is, operand_size}
-use Rattle.uni_meaning.proofs.SeenNodes.{plan_size, plans_size, seen_and, seen_apply, seen_difference, seen_extract, seen_or, seen_strong_or, seen_weak_and}
+use Rattle.uni_meaning.proofs.SeenNodes.{seen_and, seen_apply, seen_difference, seen_extract, seen_or, seen_strong_or, seen_weak_and}
 use Rattle.shard_index.specs.Places.{shards_in}
 use Rattle.shard_eval.specs.Kept.{IsShare}
 use Rattle.shard_eval.specs.Resolution.{Resolution, IsReady}
 use Rattle.apply_extract.specs.declared.answered.AnsweredOperand.{AnsweredOperand}
 use Rattle.apply_extract.specs.Answered.{answered_in, operand_in, AreReadyIn}
 use Rattle.apply_extract.specs.Conditions.{AreTyped, IsTyped}
-use Rattle.apply_extract.specs.Hits.{AreAnswered, AreCut, AreInner, IsAnswered, OfEachTable}
+use Rattle.apply_extract.specs.Hits.{AreAnswered, IsAnswered, OfEachTable}
 use Rattle.apply_extract.proofs.Asked.{if_both}
 use Rattle.apply_extract.proofs.Cuts.{are_apart, are_cut, are_ranked}
 use Rattle.apply_extract.proofs.InShards.{answered_joined, answered_list, answered_listed}

@@ -1,4 +1,4 @@
-use Rattle.std.proofs.Common.{◌≡◌, ◌+◌, ◌*◌, map, take}
+use Rattle.std.proofs.Common.{◌+◌, ◌*◌, map, take}
 use Rattle.query_check.specs.Plan.{operands_seen, plans_of, seen, seen_node}
 use Rattle.shard_index.specs.Places.{shards_in}
 use Rattle.uni_meaning.proofs.SeenNodes.{plan_size, plans_size}

@@ -1,11 +1,10 @@
-use Rattle.std.proofs.Common.{◌≡◌, ◌+◌, ◌++◌, ◌∷◌, [], List, true, length, ap, sym, ◌∙◌, subst, append_assoc, arith}
+use Rattle.std.proofs.Common.{◌≡◌, ◌+◌, ◌++◌, ◌∷◌, [], List, true, length, ap, sym, ◌∙◌, subst, append_assoc}
 use Rattle.std.specs.Vec.Iter.{into_iter_items}
 use Rattle.lineage_tree.specs.declared.lineage.RawHit.{RawHit}
 use Rattle.lineage_tree.specs.Entries.{names_below}
 use Rattle.lineage_tree.specs.Lists.{lists_of}
 use Rattle.lineage_tree.specs.Tree.{tree_of}
-use Rattle.shard_eval.specs.declared.resolved.InnerHit.{InnerHit}
-use Rattle.apply_extract.specs.Hits.{Book, numbered, with_hits}
+use Rattle.apply_extract.specs.Hits.{Book, with_hits}
 use Rattle.apply_extract.proofs.NotedHits.{names_at, names_later, numbered_more, with_count, with_more}
 use Rattle.apply_extract.proofs.notes.note_hits.Goals as goal
 

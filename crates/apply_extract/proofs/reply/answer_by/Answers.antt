@@ -1,4 +1,4 @@
-use Rattle.std.proofs.Common.{◌≡◌, ◌∙◌}
+use Rattle.std.proofs.Common.{◌∙◌}
 use Rattle.query_check.specs.Plan.{seen}
 use Rattle.apply_extract.proofs.NotedHits.{cut_names, cut_told}
 use Rattle.apply_extract.proofs.ShownHits.{reply_is}

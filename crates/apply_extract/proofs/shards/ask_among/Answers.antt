@@ -1,4 +1,3 @@
-use Rattle.std.proofs.Common.{◌≡◌, IfOk}
 use Rattle.apply_extract.specs.Answered.{answered_in}
 use Rattle.apply_extract.proofs.Asked.{first_all, if_ok}
 use Rattle.apply_extract.proofs.shards.ask_among.Goals as goal

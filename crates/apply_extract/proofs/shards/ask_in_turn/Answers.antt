@@ -1,5 +1,4 @@
-use Rattle.std.proofs.Common.{◌≡◌, ◌+◌, ◌++◌, ◌∷◌, [], List, length, length-append, ap, subst, sym, ◌∙◌, arith}
-use Rattle.lineage_tree.specs.declared.lineage.RawHit.{RawHit}
+use Rattle.std.proofs.Common.{◌≡◌, ◌+◌, ◌∷◌, [], length, length-append, ap, subst, sym, arith}
 use Rattle.apply_extract.specs.Answered.{answered_in}
 use Rattle.apply_extract.specs.Parts.{AllFirst}
 use Rattle.apply_extract.proofs.Asked.{first_more}

@@ -1,9 +1,6 @@
-use Rattle.std.proofs.Common.{◌≡◌, List, ap, sym, ◌∙◌, arith}
-use Rattle.std.proofs.lemmas.List.{take_all}
+use Rattle.std.proofs.Common.{ap, sym, ◌∙◌}
 use Rattle.std.specs.Option.{option_map}
-use Rattle.uni_meaning.specs.declared.reply.Hit.{Hit}
-use Rattle.lineage_tree.specs.declared.lineage.RawHit.{RawHit}
-use Rattle.apply_extract.specs.Shown.{accepted_hit, accepted_hits}
+use Rattle.apply_extract.specs.Shown.{accepted_hit}
 use Rattle.apply_extract.proofs.ReadVersions.{none_given, one_given}
 use Rattle.apply_extract.proofs.shown.accepted_hits.Goals.{in-Some+in_ok-push, in_default}
 use Rattle.apply_extract.proofs.shown.accepted_hits.Goals as goal

@@ -1,4 +1,4 @@
-use Rattle.std.proofs.Common.{◌≡◌, ap, ◌∙◌}
+use Rattle.std.proofs.Common.{ap, ◌∙◌}
 use Rattle.viewer_policy.specs.Judged.{judged}
 use Rattle.apply_extract.proofs.Asked.{if_ok}
 use Rattle.apply_extract.proofs.shown.shown_hits.Goals as goal
