@@ -38,3 +38,6 @@ pub enum Answer {
     /// A stack that found no memory to be compacted, and is as before: its vertical, shard and replica.
     Untidied(u16, u32, u32),
 }
+
+/// Answers of lines.
+pub type AnswerList = Rows<Answer>;

@@ -11,5 +11,5 @@ pub mod laws;
 mod tests;
 mod write;
 
-pub use answer::{Answer, StackRow, StackRows};
+pub use answer::{Answer, AnswerList, StackRow, StackRows};
 pub use write::write_answer;

@@ -13,14 +13,14 @@ use Rattle.script_rounds.specs.Entries.{Entry, change, publish, ask, compact, st
 use Rattle.script_rounds.specs.Terms.{Terms}
 use Rattle.unicorn_round.specs.declared.stacks.StackCover.{StackCover}
 use Rattle.unicorn_round.specs.Answers.{Standing, opening_standing, after_entry, after_entries, after_round, at_end, covers_after}
-use Rattle.unicorn_round.specs.Feeds.{Feed, made, fed_one}
+use Rattle.round_feed.specs.Feeds.{Feed, made, fed_one}
 use Rattle.unicorn_round.specs.Marks.{Mark, plain, lacking, at, lacks, StackName, RoundRecord}
 use Rattle.unicorn_round.specs.Stacks.{bare, stacks_in, stacks_from, is_stack, covered, is_due, is_untidied, tidy}
 use Rattle.unicorn_round.proofs.Elements.{all-append, all-map, all-flat_map}
 use Rattle.unicorn_round.proofs.Ranges.{HasWhole}
 use Rattle.unicorn_round.proofs.Wholes.{IsWhole, AreWhole}
 
-range-below : (a n high : ℕ) → a + n ≤ high → AllByRecursion (λ k. k ≤ high) (range_with_len a n)
+pub range-below : (a n high : ℕ) → a + n ≤ high → AllByRecursion (λ k. k ≤ high) (range_with_len a n)
 range-below a zero high below = tt
 range-below a (suc n) high below = (omega (arith, below), range-below (a + 1) n high (omega (arith, below)))
 
@@ -76,7 +76,7 @@ module _ (verticals : ℕ) where
       let one : (shard : ℕ) → length (map (bare vertical shard) (range_with_len 0 def.replicas)) ≤ 4 = λ shard. omega (arith, length-map-range_with_len (bare vertical shard) 0 def.replicas, small.1) in
       omega (arith, length-flat_map (λ shard. map (bare vertical shard) (range_with_len 0 def.replicas)) (range_with_len 0 def.shards) one, length-range_with_len 0 def.shards, small.0)
 
-  from-few : (vertical : ℕ) (defs : List VerticalDef) → list_all is_vertical defs ≡ true → length (stacks_from vertical defs) ≤ 256 * length defs
+  pub from-few : (vertical : ℕ) (defs : List VerticalDef) → list_all is_vertical defs ≡ true → length (stacks_from vertical defs) ≤ 256 * length defs
   from-few vertical [] all = omega arith
   from-few vertical (def ∷ defs) all =
       let parts = and_parts (is_vertical def) (list_all is_vertical defs) all in

@@ -22,14 +22,14 @@ use Rattle.unicorn_round.specs.declared.stacks.StackCover.{StackCover}
 use Rattle.unicorn_round.specs.Answers.{Standing, opening_standing, after_entry, after_entries, after_round, after_rounds, at_end, answers, entry_answers, entries_answers, round_answers, replies}
 use Rattle.unicorn_round.specs.Checking.{is_checked, checked_lines, checked_text}
 use Rattle.unicorn_round.specs.CheckState.{CheckState, ChecksFor, EntryChecked, EntriesChecked, RoundsChecked, opening_check}
-use Rattle.unicorn_round.specs.Feeds.{made, changed, published, publish_answers, refusal_answers, too_many_publishes}
+use Rattle.round_feed.specs.Feeds.{made, changed, published, publish_answers, refusal_answers, too_many_publishes}
 use Rattle.unicorn_round.specs.Marks.{Mark, lacking, RoundRecord}
 use Rattle.unicorn_round.specs.Plain.{plain_mark, plain_marks, plain_round}
 use Rattle.unicorn_round.specs.Records.{IsMarked, IsRoundRecord}
 use Rattle.unicorn_round.specs.Stacks.{is_due, rows_of, tidy_answer, tidy_answers}
 use Rattle.unicorn_round.proofs.RoundSteps.{none_untidied}
 use Rattle.unicorn_round.proofs.ServingSteps.{lt_true, lt_false, after_lacking}
-use Rattle.unicorn_round.proofs.Steps.{after-snoc, given-snoc, each-snoc, marked_by-snoc, marked_by-length}
+use Rattle.round_feed.proofs.Steps.{after-snoc, given-snoc, each-snoc, marked_by-snoc, marked_by-length}
 use Rattle.unicorn_round.proofs.Texts.{text_of-append, lines_of_answers-append}
 
 -- the lines of hits, of stacks and of what a round's end does are none that `check` writes

@@ -1,16 +1,14 @@
--- A run that meets no fault goes to its end; and what a run says of its text may be said in weaker words.
+-- A run that meets no fault goes to its end.
 use Rattle.std.proofs.Common.{◌≡◌, ℕ, Bool, true, List, [], ◌++◌, length, Option, Some, inl, inr, sym, ◌∙◌, ap, subst, refl, arith, length-append}
 use Rattle.uni_base.specs.declared.limits.Limits.{Limits}
 use Rattle.uni_schema.specs.declared.refusal.SchemaRefusal.{SchemaRefusal}
-use Rattle.uni_schema.specs.declared.refusal.SchemaRefusal.TheVariants as header
-use Rattle.script_rounds.specs.Entries.{Entry}
 use Rattle.script_rounds.specs.Reading.{Gave, NoneLeft}
-use Rattle.script_rounds.specs.Rounds.{Script, opened, unopened, script_by, rounds_from, script_of}
-use Rattle.script_rounds.specs.Terms.{Terms, under}
+use Rattle.script_rounds.specs.Rounds.{opened, unopened, script_by, rounds_from, script_of}
+use Rattle.script_rounds.specs.Terms.{under}
 use Rattle.unicorn_round.specs.declared.status.Status.{Status}
 use Rattle.unicorn_round.specs.declared.status.Status.TheVariants.{Done, Usage, Schema, ReadFault, WriteFault, TooLong, Memory}
 use Rattle.unicorn_round.specs.Completeness.{Completes, IsServable}
-use Rattle.unicorn_round.specs.Outcome.{Claim, AnswersAll, AnswersFirst, AnswersClosed, IsDue, of_header, of_rounds, of_all, IsHeaderFault, Ends, Ran}
+use Rattle.unicorn_round.specs.Outcome.{Claim, IsHeaderFault, Ran}
 use Rattle.unicorn_round.specs.Statuses.{ReadFaultsFit, WriteFaultsFit}
 
 -- what a source gave is the beginning of a script
@@ -44,51 +42,3 @@ completes limits says closing left left_after taken taken_after reads_before rea
 completes limits says closing left left_after taken taken_after reads_before reads_after writes_before writes_after Schema ran read write script told sound quiet_source quiet_sink =
     let gave = gave_script left left_after ran.bytes script told ran.gave in
     absurd (no_fault limits script ran.bytes gave.0 ran.ended ran.ends.0 gave.1 (λ ended. subst NoneLeft gave.2 (ran.none_left ended)) ran.ends.1 sound)
-
-module _ (limits : Limits) (says other : Claim) (closing : ℕ → List ℕ) (weaker : (of : Terms) (rounds : List (List Entry)) (text : List ℕ) → says of rounds text → other of rounds text) where
-  all_weaker : (script : Script) (text : List ℕ) → AnswersAll limits says script text → AnswersAll limits other script text
-  all_weaker (opened schema rounds) text a = weaker (under limits schema) rounds text a
-  all_weaker (unopened refusal) text a = a
-
-  first_weaker : (script : Script) (text : List ℕ) → AnswersFirst limits says script text → AnswersFirst limits other script text
-  first_weaker (opened schema rounds) text a = (a.0, weaker (under limits schema) _ text a.1)
-  first_weaker (unopened refusal) text a = a
-
-  closed_weaker : (script : Script) (text : List ℕ) → AnswersClosed limits says script text → AnswersClosed limits other script text
-  closed_weaker (opened schema rounds) text a = weaker (under limits schema) rounds text a
-  closed_weaker (unopened (header.NoBegin line)) text a = a
-  closed_weaker (unopened (header.BadLine line)) text a = a
-  closed_weaker (unopened (header.NamedTwice line)) text a = a
-  closed_weaker (unopened (header.UnknownVertical line)) text a = a
-  closed_weaker (unopened (header.OutOfRange line)) text a = a
-  closed_weaker (unopened (header.WordSource line)) text a = a
-  closed_weaker (unopened (header.TooMany line)) text a = a
-  closed_weaker (unopened (header.BadDeny line)) text a = a
-  closed_weaker (unopened header.Memory) text a = a
-
-  due_weaker : (bytes : List ℕ) (ended : Bool) (text : List ℕ) → IsDue limits says closing bytes ended text → IsDue limits other closing bytes ended text
-  due_weaker bytes ended text (of_header refusal fault is) = of_header refusal fault is
-  due_weaker bytes ended text (of_rounds a) = of_rounds (first_weaker _ text a)
-  due_weaker bytes ended text (of_all front last a is) = of_all front last (all_weaker _ front a) is
-
-  ends_weaker : (bytes : List ℕ) (ended : Bool) (before after : Option (List ℕ)) (status : Status) → Ends limits says closing bytes ended before after status
-      → Ends limits other closing bytes ended before after status
-  ends_weaker bytes ended before after Done e = (e.0, e.1, all_weaker _ e.0 e.2, e.3)
-  ends_weaker bytes ended before after Schema e = e
-  ends_weaker bytes ended before after ReadFault e = (e.0, e.1, closed_weaker _ e.0 e.2, e.3)
-  ends_weaker bytes ended before after TooLong e = (e.0, e.1, closed_weaker _ e.0 e.2, e.3)
-  ends_weaker bytes ended before after WriteFault e = (e.0, due_weaker bytes ended e.0 e.1, e.2)
-  ends_weaker bytes ended before after Memory e = (e.0, first_weaker _ e.0 e.1, e.2)
-  ends_weaker bytes ended before after Usage e = e
-
-  pub ran_weaker : (left left_after taken taken_after : Option (List ℕ)) (status : Status) → Ran limits says closing left left_after taken taken_after status
-      → Ran limits other closing left left_after taken taken_after status
-  ran_weaker left left_after taken taken_after status r = record {
-    bytes = r.bytes;
-    gave = r.gave;
-    ended = r.ended;
-    none_left = r.none_left;
-    ends = ends_weaker r.bytes r.ended taken taken_after status r.ends;
-    too_long = r.too_long;
-    in_limit = r.in_limit;
-  }

@@ -1,5 +1,5 @@
 -- What holds of each element of a list.
-use Rattle.std.proofs.Common.{List, [], ◌∷◌, ◌++◌, map, flat_map}
+use Rattle.std.proofs.Common.{◌≤◌, Bool, true, false, List, [], ◌∷◌, ◌++◌, length, filter, map, flat_map, if◌then◌else◌, arith}
 use Rattle.std.specs.List.{AllByRecursion}
 
 pub all-append : {X : Type 0} (P : X → Type 0) (xs ys : List X) → AllByRecursion P xs → AllByRecursion P ys → AllByRecursion P (xs ++ ys)
@@ -29,3 +29,12 @@ all-wider P Q so (x ∷ xs) all = (so x all.0, all-wider P Q so xs all.1)
 pub all-both : {X : Type 0} (P Q : X → Type 0) (xs : List X) → AllByRecursion P xs → AllByRecursion Q xs → AllByRecursion (λ x. P x × Q x) xs
 all-both P Q [] a b = tt
 all-both P Q (x ∷ xs) a b = ((a.0, b.0), all-both P Q xs a.1 b.1)
+
+-- a filter leaves no more
+pub filter_fewer : {X : Type 0} (p : X → Bool) (xs : List X) → length (filter p xs) ≤ length xs
+filter_fewer p [] = omega arith
+filter_fewer p (x ∷ xs) = by (p x) (filter_fewer p xs)
+  where
+    by : (b : Bool) → length (filter p xs) ≤ length xs → length (if b then x ∷ filter p xs else filter p xs) ≤ length (x ∷ xs)
+    by true rest = omega (arith, rest)
+    by false rest = omega (arith, rest)

@@ -19,7 +19,7 @@ use Rattle.script_rounds.specs.Laws.{all_entries}
 use Rattle.script_rounds.specs.Terms.{Terms}
 use Rattle.unicorn_round.specs.declared.stacks.StackCover.{StackCover}
 use Rattle.unicorn_round.specs.Answers.{Standing, opening_standing, after_entry, after_entries, after_round, answers, entry_answers, entries_answers, round_answers, rounds_answers, replies}
-use Rattle.unicorn_round.specs.Feeds.{Feed, made, refusal_answers, too_many_publishes}
+use Rattle.round_feed.specs.Feeds.{Feed, made, refusal_answers, too_many_publishes}
 use Rattle.unicorn_round.specs.Legal.{AreMade, AreWithin}
 use Rattle.unicorn_round.specs.Marks.{Mark, plain, lacking, at, StackName, Record}
 use Rattle.unicorn_round.specs.Stacks.{is_due, is_untidied, tidy_answer, tidy_answers, row_of, rows_of}

@@ -8,7 +8,7 @@ use Rattle.uni_table.specs.Journals.{IsJournal, fold_of}
 use Rattle.script_rounds.specs.Entries.{Entry, change, publish, ask, compact, stats, refused, fault, query_fault}
 use Rattle.script_rounds.specs.Terms.{Terms}
 use Rattle.unicorn_round.specs.Answers.{Standing, opening_standing, after_entry, after_entries, after_round, after_rounds}
-use Rattle.unicorn_round.specs.Feeds.{Feed, made, fed_one}
+use Rattle.round_feed.specs.Feeds.{Feed, made, fed_one}
 use Rattle.unicorn_round.specs.Laws.{RoundsMakeJournals}
 use Rattle.unicorn_round.specs.Marks.{Mark, lacks, Record}
 use Rattle.unicorn_round.specs.Serving.{IsFeed}

@@ -3,14 +3,15 @@ use Rattle.std.proofs.Common.{◌≡◌, ◌≤◌, ℕ, Bool, true, false, List
 use Rattle.script_rounds.specs.Entries.{Entry, change, publish, ask, compact, stats, refused, fault, query_fault}
 use Rattle.script_rounds.specs.Terms.{Terms}
 use Rattle.unicorn_round.specs.Answers.{Standing, opening_standing, after_entry, after_entries, after_round, after_rounds}
-use Rattle.unicorn_round.specs.Feeds.{made}
-use Rattle.unicorn_round.specs.Legal.{AreWithin, AreMade, Legal, NoneFalls, numbers_in, all_numbers, asks_in, compacts}
+use Rattle.round_feed.specs.Feeds.{made}
+use Rattle.unicorn_round.specs.Legal.{AreWithin, AreMade, Between, Legal, NoneFalls, numbers_in, all_numbers, asks_in, compacts}
 use Rattle.unicorn_round.specs.Marks.{Mark, plain, lacking, at}
 use Rattle.unicorn_round.specs.Plain.{Lacks, plain_mark, plain_marks, plain_round, plain_record}
 use Rattle.unicorn_round.specs.Records.{IsRecord, IsRoundRecord}
-use Rattle.unicorn_round.specs.Steps.{marked_by}
+use Rattle.unicorn_round.specs.ServedLaws.{between_falls}
+use Rattle.round_feed.specs.Steps.{marked_by}
 use Rattle.unicorn_round.proofs.RoundSteps.{entry_later}
-use Rattle.unicorn_round.proofs.Steps.{each-length}
+use Rattle.round_feed.proofs.Steps.{each-length}
 
 module _ (terms : Terms) where
   -- the number of publishes never falls
@@ -65,23 +66,13 @@ module _ (terms : Terms) where
     all_made (after_round terms s round (plain_round terms s round one)) rounds lacks (omega (arith, same)),
   )
 
--- numbers that do not fall, the first of them at least low, and the last at most high
-abbrev Between : ℕ → ℕ → List ℕ → Type 0
-Between low high [] = low ≤ high
-Between low high (n ∷ ns) = (low ≤ n) × Between n high ns
-
-between_lower : (lower low high : ℕ) (ns : List ℕ) → lower ≤ low → Between low high ns → Between lower high ns
+pub between_lower : (lower low high : ℕ) (ns : List ℕ) → lower ≤ low → Between low high ns → Between lower high ns
 between_lower lower low high [] less b = omega (arith, less, b)
 between_lower lower low high (n ∷ ns) less b = (omega (arith, less, b.0), b.1)
 
-between_append : (low middle high : ℕ) (ns ms : List ℕ) → Between low middle ns → Between middle high ms → Between low high (ns ++ ms)
+pub between_append : (low middle high : ℕ) (ns ms : List ℕ) → Between low middle ns → Between middle high ms → Between low high (ns ++ ms)
 between_append low middle high [] ms b c = between_lower low middle high ms b c
 between_append low middle high (n ∷ ns) ms b c = (b.0, between_append n middle high ns ms b.1 c)
-
-between_falls : (low high : ℕ) (ns : List ℕ) → Between low high ns → NoneFalls ns
-between_falls low high [] b = tt
-between_falls low high (n ∷ []) b = tt
-between_falls low high (n ∷ m ∷ ns) b = (b.1.0, between_falls n high (m ∷ ns) b.1)
 
 module _ (terms : Terms) (test : Entry → Bool) where
   -- so are those of a round that pass a test

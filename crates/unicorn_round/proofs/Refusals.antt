@@ -16,7 +16,7 @@ use Rattle.reply_text.specs.declared.answer.Answer.TheVariants as answers_are
 use Rattle.reply_text.specs.Heads as heads
 use Rattle.reply_text.specs.Heads.{Head, head_of}
 use Rattle.script_rounds.specs.Terms.{Terms}
-use Rattle.unicorn_round.specs.Feeds.{Feed, made, refusal_answers, publish_answers, too_many_publishes}
+use Rattle.round_feed.specs.Feeds.{Feed, made, refusal_answers, publish_answers, too_many_publishes}
 use Rattle.unicorn_round.proofs.Lines.{IsOneAt}
 
 -- a reason for which a change is refused has a code

@@ -8,7 +8,7 @@ use Rattle.script_rounds.specs.Entries.{Entry, change, publish, ask, compact, st
 use Rattle.script_rounds.specs.Terms.{Terms}
 use Rattle.unicorn_round.specs.declared.stacks.StackCover.{StackCover}
 use Rattle.unicorn_round.specs.Answers.{Standing, opening_standing, after_entry, after_entries, after_round, after_rounds, at_end, answers, entry_answers, entries_answers, round_answers, replies}
-use Rattle.unicorn_round.specs.Feeds.{Feed, made, fed_one}
+use Rattle.round_feed.specs.Feeds.{Feed, made, fed_one}
 use Rattle.unicorn_round.specs.Marks.{Mark, lacks, RoundRecord}
 use Rattle.unicorn_round.specs.Plain.{plain_mark, plain_marks, plain_round}
 use Rattle.unicorn_round.specs.Records.{IsMarked, IsRoundRecord}
@@ -16,7 +16,7 @@ use Rattle.unicorn_round.specs.Serving.{Serving, StandsFor, Answered, AllAnswere
 use Rattle.unicorn_round.specs.Stacks.{is_due, is_untidied, due_untidied, tidy, tidy_answer, tidy_answers, name_of}
 use Rattle.unicorn_round.proofs.Lists.{map_append}
 use Rattle.unicorn_round.proofs.JournalSteps.{later-refl, later-trans}
-use Rattle.unicorn_round.proofs.Steps.{after-snoc, given-snoc, each-snoc, marked_by-snoc, marked_by-length}
+use Rattle.round_feed.proofs.Steps.{after-snoc, given-snoc, each-snoc, marked_by-snoc, marked_by-length}
 use Rattle.unicorn_round.proofs.Texts.{answers_text-append}
 
 -- an entry leaves a journal as it is, or makes it longer

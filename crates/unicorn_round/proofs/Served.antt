@@ -2,6 +2,7 @@
 use Rattle.std.proofs.Common.{ℕ, List, sym, subst}
 use Rattle.script_rounds.specs.Entries.{Entry}
 use Rattle.script_rounds.specs.Terms.{Terms}
+use Rattle.unicorn_round.specs.Laws.{PlainMayServe}
 use Rattle.unicorn_round.specs.Legal.{Legal}
 use Rattle.unicorn_round.specs.Modes.{Serves, AnswersPlainly}
 use Rattle.unicorn_round.specs.Records.{IsRecord}
@@ -14,3 +15,6 @@ plain_serves of rounds text a = record {
   legal = subst (Legal of rounds) (sym a.is) (plain_is_legal of rounds a.lacks (subst (IsRecord of rounds) a.is a.is_record));
   writes = a.writes;
 }
+
+pub plain_may_serve : PlainMayServe
+plain_may_serve = record { serves = plain_serves }

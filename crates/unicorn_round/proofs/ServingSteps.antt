@@ -15,7 +15,7 @@ use Rattle.reply_text.specs.declared.answer.StackRow.{StackRow}
 use Rattle.script_rounds.specs.Entries.{Entry, change, publish, ask, compact, stats, refused, fault, query_fault, reads_query, line_of}
 use Rattle.script_rounds.specs.Terms.{Terms}
 use Rattle.unicorn_round.specs.Answers.{Standing, after_entry}
-use Rattle.unicorn_round.specs.Feeds.{made, changed, published, publish_answers, refusal_answers, too_many_publishes}
+use Rattle.round_feed.specs.Feeds.{made, changed, published, publish_answers, refusal_answers, too_many_publishes}
 use Rattle.unicorn_round.specs.Marks.{lacking}
 use Rattle.unicorn_round.specs.Serving.{Serving, StandsFor, Answered}
 use Rattle.unicorn_round.specs.Records.{IsMarked}

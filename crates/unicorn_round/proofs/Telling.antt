@@ -11,7 +11,7 @@ use Rattle.script_rounds.specs.RoundReads.{Rise}
 use Rattle.script_rounds.specs.Terms.{Terms}
 use Rattle.unicorn_round.specs.declared.stacks.StackCover.{StackCover}
 use Rattle.unicorn_round.specs.Answers.{Standing, opening_standing, after_entry, after_entries, after_round, at_end, answers, entry_answers, entries_answers, round_answers, rounds_answers, replies}
-use Rattle.unicorn_round.specs.Feeds.{Feed, made}
+use Rattle.round_feed.specs.Feeds.{Feed, made}
 use Rattle.unicorn_round.specs.Marks.{Mark, plain, lacking, at, StackName, RoundRecord, Record}
 use Rattle.unicorn_round.specs.Records.{IsMarked, AreMarked, IsRoundRecord, IsRecordFrom, IsRecord}
 use Rattle.unicorn_round.specs.Stacks.{is_due, is_untidied, due_untidied, tidy_answer, tidy_answers, name_of}

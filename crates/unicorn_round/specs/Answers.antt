@@ -10,9 +10,9 @@ use Rattle.reply_text.specs.declared.answer.Answer.TheVariants.{Reply, Compacted
 use Rattle.script_rounds.specs.Entries.{Entry, change, publish, ask, compact, stats, refused, fault, query_fault, line_of}
 use Rattle.script_rounds.specs.Terms.{Terms}
 use Rattle.unicorn_round.specs.declared.stacks.StackCover.{StackCover}
-use Rattle.unicorn_round.specs.Feeds.{Feed, opening_feed, made, fed_one, change_answers, publish_answers}
+use Rattle.round_feed.specs.Feeds.{Feed, opening_feed, made, fed_one, change_answers, publish_answers}
 use Rattle.unicorn_round.specs.Marks.{Mark, plain, lacking, at, lacks, RoundRecord, Record}
-use Rattle.unicorn_round.specs.Steps.{after, given}
+use Rattle.round_feed.specs.Steps.{after, given}
 use Rattle.unicorn_round.specs.Stacks.{opening_stacks, covering, tidy, tidy_answers, rows_of}
 
 -- where a script stands between two of its lines: what its feed has made, and what each stack covers

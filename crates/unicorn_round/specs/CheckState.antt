@@ -7,7 +7,7 @@ use Rattle.script_rounds.specs.Entries.{Entry}
 use Rattle.script_rounds.specs.Terms.{Terms}
 use Rattle.unicorn_round.specs.Answers.{Standing, opening_standing, after_entry, after_entries, after_rounds, answers, entry_answers, entries_answers, replies}
 use Rattle.unicorn_round.specs.Checking.{checked_lines, checked_text}
-use Rattle.unicorn_round.specs.Feeds.{made}
+use Rattle.round_feed.specs.Feeds.{made}
 use Rattle.unicorn_round.specs.Marks.{Mark, Record}
 use Rattle.unicorn_round.specs.Plain.{Lacks, plain_mark, plain_marks, plain_record}
 use Rattle.unicorn_round.specs.Records.{IsMarked, AreMarked, IsRecord}
@@ -53,3 +53,11 @@ pub record RoundsChecked (terms : Terms) (rounds : List (List Entry)) (after : C
   pub is_record : IsRecord terms rounds told
   pub stands : ChecksFor after (after_rounds terms (opening_standing terms) rounds told)
   pub writes : text ≡ checked_text terms.schema (answers terms rounds told)
+
+-- the limits and the schema of its script
+abbrev pub check_terms : CheckState → Terms
+check_terms state = state.terms
+
+-- it stands behind rounds, which a text answers
+abbrev pub CheckStands : CheckState → List (List Entry) → List ℕ → Type 0
+CheckStands state rounds text = RoundsChecked state.terms rounds state text

@@ -10,9 +10,10 @@ use Rattle.script_rounds.specs.RoundReads.{Rise}
 use Rattle.script_rounds.specs.Rounds.{rounds_from}
 use Rattle.script_rounds.specs.Terms.{Terms}
 use Rattle.unicorn_round.specs.Answers.{answers, after_rounds, opening_standing}
-use Rattle.unicorn_round.specs.Feeds.{made}
+use Rattle.round_feed.specs.Feeds.{made}
 use Rattle.unicorn_round.specs.Legal.{Legal}
 use Rattle.unicorn_round.specs.Marks.{Record}
+use Rattle.unicorn_round.specs.Modes.{AnswersPlainly, Serves}
 use Rattle.unicorn_round.specs.Records.{IsRecord}
 
 -- Answers tell their record: two records of rounds that have the same answers are the same, where no two
@@ -36,3 +37,7 @@ pub record AnswersTell : Type 0 where
 pub record RoundsMakeJournals : Type 0 where
   pub journal : (terms : Terms) → (rounds : List (List Entry)) → (told : Record) → IsJournal terms.schema terms.limits (after_rounds terms (opening_standing terms) rounds told).feed.journal
   pub few : (terms : Terms) → (rounds : List (List Entry)) → (told : Record) → made (after_rounds terms (opening_standing terms) rounds told).feed ≤ terms.limits.publishes
+
+-- What answers rounds line by line is one of the texts that a service may answer them by.
+pub record PlainMayServe : Type 0 where
+  pub serves : (terms : Terms) → (rounds : List (List Entry)) → (text : List ℕ) → AnswersPlainly terms rounds text → Serves terms rounds text

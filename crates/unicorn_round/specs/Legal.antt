@@ -3,9 +3,9 @@ use Rattle.std.specs.Prelude.{ℕ, Bool, ◌≤◌, ◌&&◌, ◌==◌, false, i
 use Rattle.script_rounds.specs.Entries.{Entry, ask, compact}
 use Rattle.script_rounds.specs.Terms.{Terms}
 use Rattle.unicorn_round.specs.Answers.{Standing, opening_standing, after_round}
-use Rattle.unicorn_round.specs.Feeds.{made}
+use Rattle.round_feed.specs.Feeds.{made}
 use Rattle.unicorn_round.specs.Marks.{Mark, plain, lacking, at, RoundRecord, Record}
-use Rattle.unicorn_round.specs.Steps.{Each}
+use Rattle.round_feed.specs.Steps.{Each}
 
 -- each number is from low to high
 abbrev pub AreWithin : ℕ → ℕ → List Mark → Type 0
@@ -50,6 +50,11 @@ abbrev pub NoneFalls : List ℕ → Type 0
 NoneFalls [] = ⊤
 NoneFalls (n ∷ []) = ⊤
 NoneFalls (n ∷ m ∷ ns) = (n ≤ m) × NoneFalls (m ∷ ns)
+
+-- numbers that do not fall, the first of them at least low, and the last at most high
+abbrev pub Between : ℕ → ℕ → List ℕ → Type 0
+Between low high [] = low ≤ high
+Between low high (n ∷ ns) = (low ≤ n) × Between n high ns
 
 -- Legal: the numbers of each round are within its bounds, and those of one session, and those of one stack,
 -- do not fall from line to line

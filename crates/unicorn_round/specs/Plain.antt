@@ -3,9 +3,9 @@ use Rattle.std.specs.Prelude.{ℕ, Bool, true, false, List, []}
 use Rattle.script_rounds.specs.Entries.{Entry, ask, compact}
 use Rattle.script_rounds.specs.Terms.{Terms}
 use Rattle.unicorn_round.specs.Answers.{Standing, opening_standing, after_entry, after_round}
-use Rattle.unicorn_round.specs.Feeds.{made}
+use Rattle.round_feed.specs.Feeds.{made}
 use Rattle.unicorn_round.specs.Marks.{Mark, plain, lacking, at, RoundRecord, Record}
-use Rattle.unicorn_round.specs.Steps.{marked_by}
+use Rattle.round_feed.specs.Steps.{marked_by}
 
 -- for which entries of a round memory was wanting
 abbrev pub Lacks : Type 0

@@ -1,5 +1,5 @@
 -- A script that is read and answered round by round.
-use Rattle.std.specs.Prelude.{ℕ, true, false, ◌≡◌, ◌≤◌, List, [], ◌++◌, length, Option}
+use Rattle.std.specs.Prelude.{ℕ, true, false, ◌≡◌, ◌≤◌, ◌*◌, List, [], ◌++◌, length, Option}
 use Rattle.uni_base.specs.declared.limits.Limits.{Limits}
 use Rattle.uni_schema.specs.Schema.{Declarations}
 use Rattle.script_rounds.specs.Entries.{Entry}
@@ -34,3 +34,9 @@ pub record Ongoing (limits : Limits) (terms : Terms) (answered : List (List Entr
   pub read : HasRead limits state schema left_before left_now rounds
   pub stands : answered rounds text
   pub took : Took taken_before text taken_now
+
+-- what answers may go on, where at most twice as many lines count as were read
+pub record GoesOn (goes : ℕ → Type 0) (read : ℕ) : Type 0 where
+  pub lines : ℕ
+  pub is : goes lines
+  pub few : lines ≤ 2 * read

@@ -3,10 +3,10 @@ use Rattle.std.specs.Prelude.{◌≡◌, List, ⊤}
 use Rattle.script_rounds.specs.Entries.{Entry, change, publish, ask, compact, stats, refused, fault, query_fault}
 use Rattle.script_rounds.specs.Terms.{Terms}
 use Rattle.unicorn_round.specs.Answers.{Standing, opening_standing, after_entries, after_round}
-use Rattle.unicorn_round.specs.Feeds.{made}
+use Rattle.round_feed.specs.Feeds.{made}
 use Rattle.unicorn_round.specs.Marks.{Mark, plain, lacking, at, RoundRecord, Record}
 use Rattle.unicorn_round.specs.Stacks.{due_untidied}
-use Rattle.unicorn_round.specs.Steps.{Each}
+use Rattle.round_feed.specs.Steps.{Each}
 
 -- nothing is said of a line, or memory was wanting for it
 abbrev pub IsPlainOrLacking : Mark → Type 0

@@ -10,7 +10,7 @@ use Rattle.script_rounds.specs.Entries.{Entry}
 use Rattle.script_rounds.specs.Terms.{Terms}
 use Rattle.unicorn_round.specs.declared.stacks.StackCover.{StackCover}
 use Rattle.unicorn_round.specs.Answers.{Standing, opening_standing, after_entry, after_entries, after_rounds, answers, entry_answers, entries_answers, replies}
-use Rattle.unicorn_round.specs.Feeds.{Feed, made}
+use Rattle.round_feed.specs.Feeds.{Feed, made}
 use Rattle.unicorn_round.specs.Marks.{Mark, Record}
 use Rattle.unicorn_round.specs.Plain.{Lacks, plain_mark, plain_marks, plain_record}
 use Rattle.unicorn_round.specs.Records.{IsMarked, AreMarked, IsRecord}
@@ -87,3 +87,11 @@ pub record RoundsAnswered (terms : Terms) (rounds : List (List Entry)) (after : 
   pub is_record : IsRecord terms rounds told
   pub stands : StandsFor after (after_rounds terms (opening_standing terms) rounds told)
   pub writes : text ≡ answers_text terms.schema (answers terms rounds told)
+
+-- the limits and the schema of its script
+abbrev pub serving_terms : Serving → Terms
+serving_terms serving = serving.terms
+
+-- it stands behind rounds, which a text answers
+abbrev pub ServingStands : Serving → List (List Entry) → List ℕ → Type 0
+ServingStands serving rounds text = RoundsAnswered serving.terms rounds serving text

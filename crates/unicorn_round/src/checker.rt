@@ -1,10 +1,13 @@
 ghost use Rattle.std.specs.Prelude.{◌≡◌, ◌⊎◌, ◌++◌, None, Some, IfErr, IfOk, List, OnErr, OnOk, option_to_list};
+ghost use Rattle.std.specs.Arc.{arc_value};
+ghost use Rattle.script_rounds.specs.Terms.{under};
 ghost use Rattle.reply_text.specs.Printed.{answers_text};
 ghost use Rattle.script_rounds.specs.Entries.{AreItemsOf, Entry, IsItemOf, change, publish};
 ghost use Rattle.script_rounds.specs.Fits.{ItemFits, ItemsFit};
 ghost use Rattle.uni_table.specs.Commands.{IsDeclared, next, refuses};
 ghost use Rattle.unicorn_round.specs.Answers.{Standing};
-ghost use Rattle.unicorn_round.specs.CheckState.{ChecksFor, EntriesChecked, EntryChecked};
+ghost use Rattle.unicorn_round.specs.Answerer.{Always, HasAnswered, MayAnswer};
+ghost use Rattle.unicorn_round.specs.CheckState.{CheckStands, ChecksFor, EntriesChecked, EntryChecked, check_terms, opening_check};
 
 use crate::answering::Answering;
 use crate::refusal::TOO_MANY_PUBLISHES;
@@ -41,6 +44,27 @@ impl Model for Checker {
 }
 
 impl Checker {
+    /// Nothing pending.
+    pub(crate) fn new(alloc: Global, limits: Limits, schema: Arc<Schema>) -> Checker
+        ensures { result ≡ opening_check (under limits (arc_value schema)) }
+    {
+        Checker {
+            alloc,
+            limits,
+            table: Table::new(alloc, schema, limits),
+            publishes: 0,
+        }
+    }
+
+    /// Checks a round: the state after it, and the lines of what is wrong.
+    pub(crate) fn answer_round(mut self, items: ItemList) -> Result<(Checker, Text), AllocError>
+        requires { MayAnswer check_terms Always CheckStands self items }
+        ensures { IfOk result (λ t. HasAnswered check_terms Always CheckStands self items t.0 t.1) }
+    {
+        let text = self.check_items(items.as_slice())?;
+        Ok((self, text))
+    }
+
     // What is wrong with a line that counts, if anything is, or that memory was wanting for it.
     fn answer(&mut self, item: &Item) -> Option<Answer>
         requires { ItemFits self.old.terms item.now }
@@ -123,38 +147,21 @@ impl Checker {
 }
 
 impl Answering for Checker {
-    ghost use Rattle.std.specs.Prelude.{List, ℕ, ◌≡◌, ◌++◌, ◌∷◌, [], IfOk};
-    ghost use Rattle.std.specs.Arc.{arc_value};
-    ghost use Rattle.script_rounds.specs.Entries.{AreItemsOf, Entry};
-    ghost use Rattle.script_rounds.specs.Fits.{ItemsFit};
-    ghost use Rattle.script_rounds.specs.Terms.{under};
-    ghost use Rattle.uni_base.specs.StandardLimits.{IsWithinStandard};
+    ghost use Rattle.unicorn_round.specs.Answerer.{Always};
     ghost use Rattle.unicorn_round.specs.CheckLaws.{check_claimed, check_nothing};
-    ghost use Rattle.unicorn_round.specs.CheckState.{RoundsChecked};
+    ghost use Rattle.unicorn_round.specs.CheckState.{CheckStands, check_terms};
     ghost use Rattle.unicorn_round.specs.Checking.{checked_line};
     ghost use Rattle.unicorn_round.specs.Modes.{Checks};
 
-    ghost terms = { λ checker. checker.terms };
+    ghost terms = { check_terms };
 
-    ghost stands = { λ checker rounds text. RoundsChecked checker.terms rounds checker text };
+    ghost ready = { Always };
+
+    ghost stands = { CheckStands };
 
     ghost claims = { Checks };
 
     ghost closing = { checked_line };
-
-    fn open(alloc: Global, limits: Limits, schema: Arc<Schema>) -> Result<Checker, AllocError> {
-        Ok(Checker {
-            alloc,
-            limits,
-            table: Table::new(alloc, schema, limits),
-            publishes: 0,
-        })
-    }
-
-    fn answer_round(&mut self, items: &ItemList) -> Result<Text, AllocError> {
-        let text = self.check_items(items.as_slice())?;
-        Ok(text)
-    }
 
     fn close(&self, lines: u64) -> Result<Text, AllocError> {
         let mut text = Text::new(self.alloc);

@@ -1,5 +1,5 @@
 //! Laws about definitions, each the contract of a function that does nothing of its own.
-ghost use Rattle.unicorn_round.specs.Laws.{AnswersTell, RoundsMakeJournals};
+ghost use Rattle.unicorn_round.specs.Laws.{AnswersTell, PlainMayServe, RoundsMakeJournals};
 
 /// Equal answers are those of equal records, and so are answers of one text.
 pub fn answers_tell()
@@ -17,4 +17,10 @@ pub fn answers_tell()
 #[tactic(auto, using(crate::proofs::Made::rounds_make_journals))]
 pub fn rounds_make_journals()
     ensures { RoundsMakeJournals }
+{}
+
+/// What answers a script line by line is what a service may answer it by.
+#[tactic(auto, using(crate::proofs::Served::plain_may_serve))]
+pub fn plain_may_serve()
+    ensures { PlainMayServe }
 {}

@@ -6,15 +6,22 @@ mod checker;
 pub mod examples;
 mod header;
 pub mod laws;
+mod merge;
 mod modes;
+mod notes;
+mod parts;
 mod program;
 mod refusal;
+mod round;
 mod script;
 mod serial;
+mod service;
+mod slot;
 mod stacks;
 mod status;
 #[cfg(test)]
 mod tests;
+mod tidy;
 mod write;
 
 pub use modes::{check_script, run_plain, serve_rounds};

@@ -1,5 +1,9 @@
-ghost use Rattle.std.specs.Prelude.{◌≡◌};
+ghost use Rattle.std.specs.Prelude.{ℕ, ◌≡◌, List, Ok};
+ghost use Rattle.std.specs.Arc.{arc_value};
+ghost use Rattle.script_rounds.specs.Terms.{under};
+ghost use Rattle.script_rounds.specs.declared.item.Item.{Item};
 ghost use Rattle.uni_base.specs.StandardLimits.{IsWithinStandard};
+ghost use Rattle.unicorn_round.specs.Answerer.{HasAnswered, IsOpened, MayAnswer};
 ghost use Rattle.unicorn_round.specs.Outcome.{Ran};
 ghost use Rattle.unicorn_round.specs.Statuses.{ReadFaultsFit, WriteFaultsFit, status_of};
 
@@ -7,18 +11,33 @@ use crate::answering::Answering;
 use crate::header::write_header_fault;
 use crate::status::Status;
 use crate::write::write_all;
-use script_rounds::{OpenRefusal, Rounds, ScriptRefusal};
-use std::alloc::Global;
-use uni_base::{Limits, Sink, Source};
+use script_rounds::{ItemList, OpenRefusal, Rounds, ScriptRefusal};
+use std::alloc::{AllocError, Global};
+use std::sync::Arc;
+use uni_base::{Limits, Sink, Source, Text};
+use uni_schema::Schema;
 
-/// Reads a script and answers it, each round written in one piece before the next one is read.
-pub(crate) fn answer_script<A: Answering, S: Source, K: Sink>(
+/// Reads a script and answers it, each round written in one piece before the next one is read. What opens and what
+/// answers a script are closures, since a trait's method may not send to threads what its caller is generic in.
+pub(crate) fn answer_script<A, O, F, S, K>(
     alloc: Global,
     limits: Limits,
     source: &mut S,
     sink: &mut K,
+    open_with: &O,
+    answer_with: &F,
 ) -> Status
-    requires { IsWithinStandard limits }
+where
+    A: Answering,
+    O: Fn(Arc<Schema>) -> Result<A, AllocError>,
+    F: Fn(A, ItemList) -> Result<(A, Text), AllocError>,
+    S: Source,
+    K: Sink,
+    requires standard { IsWithinStandard limits }
+    requires opens { (schema : _) → O.pre open_with.now schema }
+    requires opened { (schema : _) → (answering : A) → O.post open_with.now schema (Ok answering) → IsOpened A.terms A.ready A.stands (under limits (arc_value schema)) answering }
+    requires may { (answering : A) → (items : List Item) → MayAnswer A.terms A.ready A.stands answering items → F.pre answer_with.now answering items }
+    requires answered { (old : A) → (items : List Item) → (new : A) → (text : List ℕ) → F.post answer_with.now old items (Ok (new, text)) → HasAnswered A.terms A.ready A.stands old items new text }
     ensures ran { Ran limits A.claims A.closing (S.left source.old) (S.left source.new) (K.taken sink.old) (K.taken sink.new) result }
     ensures reads { ReadFaultsFit result (S.faults source.old) (S.faults source.new) }
     ensures writes { WriteFaultsFit result (K.faults sink.old) (K.faults sink.new) }
@@ -28,7 +47,7 @@ pub(crate) fn answer_script<A: Answering, S: Source, K: Sink>(
         Err(OpenRefusal::Schema(refusal)) => return write_header_fault(alloc, refusal, sink),
         Err(OpenRefusal::Script(refusal)) => return status_of(refusal),
     };
-    let Ok(mut answering) = A::open(alloc, limits, schema) else {
+    let Ok(mut answering) = open_with(schema) else {
         return Status::Memory;
     };
     loop {
@@ -37,9 +56,10 @@ pub(crate) fn answer_script<A: Answering, S: Source, K: Sink>(
             Ok(None) => break,
             Err(refusal) => return status_of(refusal),
         };
-        let Ok(text) = answering.answer_round(&round.items) else {
+        let Ok((next, text)) = answer_with(answering, round.items) else {
             return Status::Memory;
         };
+        answering = next;
         if write_all(sink, text.as_slice()).is_err() {
             return Status::WriteFault;
         }

@@ -226,34 +226,20 @@ impl Serial {
 }
 
 impl Answering for Serial {
-    ghost use Rattle.std.specs.Prelude.{List, ℕ, ◌≡◌, ◌++◌, ◌∷◌, [], IfOk};
-    ghost use Rattle.std.specs.Arc.{arc_value};
-    ghost use Rattle.script_rounds.specs.Entries.{AreItemsOf, Entry};
-    ghost use Rattle.script_rounds.specs.Fits.{ItemsFit};
-    ghost use Rattle.script_rounds.specs.Terms.{under};
-    ghost use Rattle.uni_base.specs.StandardLimits.{IsWithinStandard};
+    ghost use Rattle.unicorn_round.specs.Answerer.{Always};
     ghost use Rattle.unicorn_round.specs.Modes.{AnswersPlainly, nothing_more};
-    ghost use Rattle.unicorn_round.specs.Serving.{RoundsAnswered};
+    ghost use Rattle.unicorn_round.specs.Serving.{ServingStands, serving_terms};
     ghost use Rattle.unicorn_round.specs.SerialLaws.{plain_claimed, plain_nothing};
 
-    ghost terms = { λ serial. serial.terms };
+    ghost terms = { serving_terms };
 
-    ghost stands = { λ serial rounds text. RoundsAnswered serial.terms rounds serial text };
+    ghost ready = { Always };
+
+    ghost stands = { ServingStands };
 
     ghost claims = { AnswersPlainly };
 
     ghost closing = { nothing_more };
-
-    fn open(alloc: Global, limits: Limits, schema: Arc<Schema>) -> Result<Serial, AllocError> {
-        Serial::new(alloc, limits, schema)
-    }
-
-    fn answer_round(&mut self, items: &ItemList) -> Result<Text, AllocError> {
-        let mut answers = self.answer_items(items.as_slice())?;
-        self.tidy(&mut answers)?;
-        let text = self.write(answers)?;
-        Ok(text)
-    }
 
     fn close(&self, _lines: u64) -> Result<Text, AllocError> {
         Ok(Text::new(self.alloc))

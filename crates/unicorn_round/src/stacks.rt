@@ -1,8 +1,11 @@
-ghost use Rattle.std.specs.Prelude.{◌≡◌, ◌<◌, ◌^◌, ◌++◌, [], IfOk, OnOk, map};
+ghost use Rattle.std.specs.Prelude.{◌≡◌, ◌<◌, ◌^◌, ◌++◌, [], IfOk, OnOk, filter, map};
 ghost use Rattle.std.specs.List.{range_with_len};
-ghost use Rattle.unicorn_round.specs.Stacks.{bare, covered, covering, is_due, is_stack, layers_of, opening_stacks, rows_of, stacks_in, tidy, tidy_answers};
+ghost use Rattle.unicorn_round.specs.SchemaStacks.{AreStacks};
+ghost use Rattle.unicorn_round.specs.Stacks.{bare, covered, covering, due_untidied, is_due, is_stack, is_untidied, layers_of, name_of, opening_stacks, rows_of, stacks_in, tidy, tidy_answer, tidy_answers};
+ghost use Rattle.unicorn_round.specs.Weaving.{compacted_covers, covered_by};
 
 use reply_text::{Answer, StackRow, StackRows};
+use script_rounds::Item;
 use std::alloc::{AllocError, Global};
 use std::marker::Model;
 use uni_schema::{Schema, VerticalDef};
@@ -49,12 +52,35 @@ impl StackCover {
         }
     }
 
-    // The stack is tidied where it is due.
-    fn tidy(&mut self, made: u64)
-        requires { made < 2 ^ 63 }
-        ensures { self.new ≡ tidy made [] self.old }
+    // Whether it is among those that were left as they were.
+    fn is_among(&self, untidied: &[StackCover]) -> bool
+        ensures { result ≡ is_untidied (map name_of untidied.now) self.now }
     {
-        if self.is_due(made) {
+        for stack in untidied {
+            if self.is(stack.vertical, stack.shard, stack.replica) {
+                return true;
+            }
+        }
+        false
+    }
+
+    // What it answers at a round's end, where it is due.
+    fn answer(&self, made: u64, untidied: &[StackCover]) -> Answer
+        ensures { result ≡ tidy_answer made (map name_of untidied.now) self.now }
+    {
+        if self.is_among(untidied) {
+            Answer::Untidied(self.vertical, self.shard, self.replica)
+        } else {
+            Answer::Tidied(self.vertical, self.shard, self.replica, made)
+        }
+    }
+
+    // The stack is tidied where it is due and was not left as it was.
+    fn tidy(&mut self, made: u64, untidied: &[StackCover])
+        requires { made < 2 ^ 63 }
+        ensures { self.new ≡ tidy made (map name_of untidied.now) self.old }
+    {
+        if self.is_due(made) && !self.is_among(untidied) {
             self.covers = made;
         }
     }
@@ -79,7 +105,8 @@ impl Model for Stacks {
 impl Stacks {
     /// The stacks of a schema, of which none covers a publish yet.
     pub(crate) fn open(alloc: Global, schema: &Schema) -> Result<Stacks, AllocError>
-        ensures { IfOk result (λ stacks. stacks ≡ opening_stacks schema.now) }
+        ensures opening { IfOk result (λ stacks. stacks ≡ opening_stacks schema.now) }
+        ensures are { IfOk result (AreStacks schema.now) }
     {
         let mut covers = Vec::new(alloc);
         for vertical in 0..schema.verticals() {
@@ -95,25 +122,82 @@ impl Stacks {
         cover_one(self.covers.as_mut_slice(), vertical, shard, replica, number);
     }
 
-    /// Answers for each stack that is due that it is tidied.
-    pub(crate) fn answer_due(&self, made: u64, answers: &mut Vec<Answer>) -> Result<(), AllocError>
+    /// Stacks are compacted, those of lines that were answered by a number: they cover so many publishes.
+    pub(crate) fn cover_all(&mut self, compactions: &[Item], answers: &[Answer])
+        ensures { self.new ≡ compacted_covers self.old compactions.now answers.now }
+    {
+        for at in 0..compactions.len().min(answers.len()) {
+            self.cover_answered(&compactions[at], &answers[at]);
+        }
+    }
+
+    // The same for one line.
+    fn cover_answered(&mut self, compaction: &Item, answer: &Answer)
+        ensures { self.new ≡ covered_by self.old compaction.now answer.now }
+    {
+        if let (Item::Compact(_, vertical, shard, replica), Answer::Compacted(_, number)) = (
+            compaction, answer,
+        ) {
+            self.cover(*vertical, *shard, *replica, *number);
+        }
+    }
+
+    /// The stacks that are due.
+    pub(crate) fn due(&self, made: u64) -> Result<Vec<StackCover>, AllocError>
         requires { made < 2 ^ 63 }
-        ensures { OnOk result (answers.new.items ≡ answers.old.items ++ tidy_answers made [] self.now) }
+        ensures { IfOk result (λ due. due.items ≡ filter (is_due made) self.now) }
+    {
+        let mut due = Vec::new(self.alloc);
+        for cover in self.covers.as_slice() {
+            if cover.is_due(made) {
+                due.push(*cover)?;
+            }
+        }
+        Ok(due)
+    }
+
+    /// Those of them that are among some stacks.
+    pub(crate) fn due_among(
+        &self,
+        made: u64,
+        missed: &[StackCover],
+    ) -> Result<Vec<StackCover>, AllocError>
+        requires { made < 2 ^ 63 }
+        ensures { IfOk result (λ among. map name_of among.items ≡ due_untidied made (map name_of missed.now) self.now) }
+    {
+        let mut among = Vec::new(self.alloc);
+        for cover in self.covers.as_slice() {
+            if cover.is_due(made) && cover.is_among(missed) {
+                among.push(*cover)?;
+            }
+        }
+        Ok(among)
+    }
+
+    /// Answers for each stack that is due that it is tidied, or was left as it was.
+    pub(crate) fn answer_due(
+        &self,
+        made: u64,
+        untidied: &[StackCover],
+        answers: &mut Vec<Answer>,
+    ) -> Result<(), AllocError>
+        requires { made < 2 ^ 63 }
+        ensures { OnOk result (answers.new.items ≡ answers.old.items ++ tidy_answers made (map name_of untidied.now) self.now) }
     {
         for cover in self.covers.as_slice() {
             if cover.is_due(made) {
-                answers.push(Answer::Tidied(cover.vertical, cover.shard, cover.replica, made))?;
+                answers.push(cover.answer(made, untidied))?;
             }
         }
         Ok(())
     }
 
-    /// Each stack that is due covers all publishes.
-    pub(crate) fn tidy(&mut self, made: u64)
+    /// Each stack that is due and was not left as it was covers all publishes.
+    pub(crate) fn tidy(&mut self, made: u64, untidied: &[StackCover])
         requires { made < 2 ^ 63 }
-        ensures { self.new ≡ map (tidy made []) self.old }
+        ensures { self.new ≡ map (tidy made (map name_of untidied.now)) self.old }
     {
-        tidy_all(self.covers.as_mut_slice(), made);
+        tidy_all(self.covers.as_mut_slice(), made, untidied);
     }
 
     /// Each stack with its layers.
@@ -142,12 +226,12 @@ fn cover_one(covers: &mut [StackCover], vertical: u16, shard: u32, replica: u32,
     }
 }
 
-fn tidy_all(covers: &mut [StackCover], made: u64)
+fn tidy_all(covers: &mut [StackCover], made: u64, untidied: &[StackCover])
     requires { made < 2 ^ 63 }
-    ensures { covers.new ≡ map (tidy made []) covers.old }
+    ensures { covers.new ≡ map (tidy made (map name_of untidied.now)) covers.old }
 {
     for cover in covers.iter_mut() {
-        cover.tidy(made);
+        cover.tidy(made, untidied);
     }
 }
 

@@ -1,7 +1,7 @@
 -- What clauses say of a catalogue, and of its feeder, its compactor, sessions and notes.
 use Rattle.std.specs.Prelude.{◌≡◌, ℕ, ◌-◌, List, [], ◌∷◌, ◌++◌, length}
 use Rattle.uni_table.specs.Contents.{ended}
-use Rattle.uni_table.specs.Journals.{fold_of}
+use Rattle.uni_table.specs.Journals.{fold_of, IsJournal}
 use Rattle.uni_table.specs.TableState.{TableState}
 use Rattle.uni_table.specs.declared.command.Command.{Command}
 use Rattle.atomic_table.specs.Seated.{TableId}
@@ -123,8 +123,9 @@ IsSeenOf catalogue lock entries = (lock ≡ lock_id catalogue.lock) × IsHistory
 
 -- ---- versions
 
--- a version is that of a journal
+-- a version is that of a journal, no command of which is refused at its place
 pub record IsVersionOf (settings : SettingsState) (journal : List (List Command)) (version : VersionState) : Type 0 where
+  pub accepted : IsJournal settings.schema settings.limits journal
   pub schema : version.schema ≡ settings.schema
   pub publishes : version.publishes ≡ length journal
   pub table : Stands version (fold_of settings.schema journal)

@@ -54,6 +54,13 @@ impl Feeder {
         &self.table
     }
 
+    /// How many publishes were made.
+    pub fn publishes(&self) -> u64
+        ensures { result ≡ length (feeder_journal self.now) }
+    {
+        self.publishes
+    }
+
     /// How many sessions were made.
     pub fn sessions(&self) -> u32
         ensures { result ≡ feeder_sessions self.now }

@@ -2,17 +2,29 @@ ghost use Rattle.std.specs.Prelude.{◌≡◌, ◌++◌, [], IfOk, OnOk, List, m
 ghost use Rattle.reply_text.specs.Printed.{answers_text};
 ghost use Rattle.script_rounds.specs.Entries.{AreItemsOf, Entry};
 ghost use Rattle.script_rounds.specs.Fits.{ItemsFit};
+ghost use Rattle.unicorn_round.specs.Answerer.{Always, HasAnswered, MayAnswer};
 ghost use Rattle.unicorn_round.specs.Answers.{Standing};
-ghost use Rattle.unicorn_round.specs.Serving.{AllAnswered, StandsFor, filled_at};
+ghost use Rattle.unicorn_round.specs.Serving.{AllAnswered, ServingStands, StandsFor, filled_at, serving_terms};
 ghost use Rattle.unicorn_round.specs.Stacks.{tidy, tidy_answers};
 
 use super::Serial;
 use reply_text::{Answer, write_answer};
-use script_rounds::Item;
+use script_rounds::{Item, ItemList};
 use std::alloc::AllocError;
 use uni_base::Text;
 
 impl Serial {
+    /// Answers a round: the state after it, and the text of its answers.
+    pub(crate) fn answer_round(mut self, items: ItemList) -> Result<(Serial, Text), AllocError>
+        requires { MayAnswer serving_terms Always ServingStands self items }
+        ensures { IfOk result (λ t. HasAnswered serving_terms Always ServingStands self items t.0 t.1) }
+    {
+        let mut answers = self.answer_items(items.as_slice())?;
+        self.tidy(&mut answers)?;
+        let text = self.write(answers)?;
+        Ok((self, text))
+    }
+
     /// Answers the items of a round, one after the other.
     pub(crate) fn answer_items(&mut self, items: &[Item]) -> Result<Vec<Answer>, AllocError>
         requires { ItemsFit self.old.terms items.now }
@@ -34,8 +46,8 @@ impl Serial {
         ensures tidied { OnOk result (self.new ≡ record self.old { covers = map (tidy self.old.publishes []) self.old.covers }) }
         ensures told { OnOk result (answers.new.items ≡ answers.old.items ++ tidy_answers self.old.publishes [] self.old.covers) }
     {
-        self.stacks.answer_due(self.publishes, answers)?;
-        self.stacks.tidy(self.publishes);
+        self.stacks.answer_due(self.publishes, &[], answers)?;
+        self.stacks.tidy(self.publishes, &[]);
         Ok(())
     }
 

@@ -1,9 +1,11 @@
-use Rattle.std.proofs.Common.{◌≡◌, ◌+◌, ◌++◌, ◌∷◌, List, drop, sym, ap, ◌∙◌}
-use Rattle.std.proofs.lemmas.List.{append_assoc, drop_more}
+use Rattle.std.proofs.Common.{◌≡◌, ◌≤◌, ◌+◌, ◌++◌, ◌∷◌, List, drop, length, sym, ap, ◌∙◌, subst, arith, append-nil}
+use Rattle.std.proofs.lemmas.List.{append_assoc, drop_all, drop_more}
 use Rattle.std.proofs.lemmas.Option.{slice_get_within, get_or_from_slice_get}
 use Rattle.uni_schema.specs.declared.schema.VerticalDef.{VerticalDef}
+use Rattle.unicorn_round.specs.SchemaStacks.{AreStacks}
 use Rattle.unicorn_round.specs.Stacks.{stacks_in, stacks_from}
 use Rattle.unicorn_round.specs.declared.stacks.StackCover.{StackCover}
+use Rattle.unicorn_round.proofs.StackLists.{opening_are}
 use Rattle.unicorn_round.proofs.stacks.Stacks.open.Goals as goal
 
 pub loop-vertical-preserved : goal.loop-vertical-preserved
@@ -17,3 +19,9 @@ loop-vertical-preserved c =
     ∙ append_assoc c.loop-vertical.covers.items (stacks_in v c.vertical.result.now) (stacks_from (v + 1) (drop (v + 1) verticals))
     ∙ ap (λ defs. c.loop-vertical.covers.items ++ stacks_from v defs) (sym here)
     ∙ c.loop-vertical.invariant
+
+pub returns-clause-are : goal.returns-clause-are
+returns-clause-are c =
+    let schema = c.args.schema.now in let v = c.loop-vertical.vertical in let covers = c.loop-vertical.covers.items in
+    let past : length schema.verticals ≤ v = omega (arith, c.verticals-vertical-end.ensures.count, c.loop-vertical-test.false) in
+    subst (AreStacks schema) (sym (sym (append-nil covers) ∙ ap (λ defs. covers ++ stacks_from v defs) (sym (drop_all v schema.verticals past)) ∙ c.loop-vertical.invariant)) (opening_are schema c.verticals-vertical-end.ensures.kept)

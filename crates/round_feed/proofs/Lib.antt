@@ -1,0 +1,5 @@
+pub mod Compacting
+mod Feeding
+mod Items
+mod Seated
+pub mod Steps

@@ -1,0 +1,6 @@
+pub mod Compacted
+pub mod Fed
+pub mod FedLine
+pub mod Feeds
+pub mod Seats
+pub mod Steps

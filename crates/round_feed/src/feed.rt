@@ -1,0 +1,101 @@
+ghost use Rattle.std.specs.Prelude.{IfOk, Some, length};
+ghost use Rattle.script_rounds.specs.Entries.{change, publish};
+ghost use Rattle.script_rounds.specs.Fits.{ItemFits, ItemsFit};
+ghost use Rattle.uni_table.specs.Commands.{IsDeclared};
+ghost use Rattle.version_catalog.specs.Seats.{IsFeederOf, KeepsSeat, feeder_table};
+ghost use Rattle.round_feed.specs.Fed.{IsFed, feed_entry};
+ghost use Rattle.round_feed.specs.FedLine.{IsFedLine, feeder_terms};
+ghost use Rattle.round_feed.specs.Seats.{HasFed, MayFeed, feed_of, terms_of};
+
+use crate::answers::add_answer;
+use rack_aggregate::{Gate, Point};
+use reply_text::{Answer, AnswerList};
+use script_rounds::{Item, ItemList};
+use std::alloc::{AllocError, Global};
+use std::sync::Wait;
+use uni_table::Command;
+use version_catalog::{Catalogue, Feeder, PublishRefusal};
+
+// The code of a publish where as many were made as there may be.
+const TOO_MANY_PUBLISHES: u32 = 51;
+
+/// Takes the changes and publishes of a round in order, and passes over its other lines. A change that is
+/// taken answers nothing. A line that finds no memory has no effect, and answers so.
+pub fn feed_round<R: Wait, G: Gate>(
+    rt: &R,
+    alloc: Global,
+    catalogue: &Catalogue,
+    feeder: &mut Feeder,
+    items: &ItemList,
+    gate: &G,
+) -> Result<AnswerList, AllocError>
+    requires may { MayFeed catalogue.now (length items.now) feeder.old }
+    requires fit { ItemsFit (terms_of catalogue.now) items.now }
+    ensures taken { HasFed catalogue.now (length items.now) feeder.old feeder.new }
+    ensures fed { IfOk result (λ answers. IsFed (terms_of catalogue.now) (feed_of feeder.old) items.now answers (feed_of feeder.new)) }
+{
+    let mut answers = AnswerList::new(alloc);
+    for item in items.as_slice() {
+        let answer = feed_line(rt, catalogue, feeder, item, gate);
+        add_answer(&mut answers, answer)?;
+    }
+    Ok(answers)
+}
+
+// Takes a line, if it is one of the feed.
+fn feed_line<R: Wait, G: Gate>(
+    rt: &R,
+    catalogue: &Catalogue,
+    feeder: &mut Feeder,
+    item: &Item,
+    gate: &G,
+) -> Option<Answer>
+    requires may { MayFeed catalogue.now 1 feeder.old }
+    requires fits { ItemFits (terms_of catalogue.now) item.now }
+    ensures taken { HasFed catalogue.now 1 feeder.old feeder.new }
+    ensures fed { IsFedLine (terms_of catalogue.now) (feed_of feeder.old) (feed_entry item.now) result (feed_of feeder.new) }
+{
+    match item {
+        Item::Change(line, command) => feed_change(feeder, *line, command),
+        Item::Publish(line) => Some(feed_publish(rt, catalogue, feeder, *line, gate)),
+        _ => None,
+    }
+}
+
+// A change that is refused has no effect, nor has one that finds no memory.
+fn feed_change(feeder: &mut Feeder, line: u64, command: &Command) -> Option<Answer>
+    requires { IsDeclared (feeder_table feeder.old).schema command.now }
+    ensures fed { IsFedLine (feeder_terms feeder.old) (feed_of feeder.old) (Some (change line command.now)) result (feed_of feeder.new) }
+    ensures seat { KeepsSeat feeder.old feeder.new }
+    ensures of { (catalogue : Catalogue) → IsFeederOf catalogue feeder.old → IsFeederOf catalogue feeder.new }
+{
+    match feeder.put(command) {
+        Ok(()) => None,
+        Err(refusal) => Some(match refusal.code() {
+            Some(code) => Answer::Refused(line, code),
+            None => Answer::Memory(line),
+        }),
+    }
+}
+
+// A publish at the limit has no effect.
+fn feed_publish<R: Wait, G: Gate>(
+    rt: &R,
+    catalogue: &Catalogue,
+    feeder: &mut Feeder,
+    line: u64,
+    gate: &G,
+) -> Answer
+    requires { MayFeed catalogue.now 1 feeder.old }
+    ensures taken { HasFed catalogue.now 1 feeder.old feeder.new }
+    ensures fed { IsFedLine (terms_of catalogue.now) (feed_of feeder.old) (Some (publish line)) (Some result) (feed_of feeder.new) }
+{
+    match catalogue.publish(rt, feeder) {
+        Ok(number) => {
+            gate.at(rt, Point::Published(number));
+            Answer::Published(line, number)
+        }
+        Err(PublishRefusal::TooMany(_)) => Answer::Refused(line, TOO_MANY_PUBLISHES),
+        Err(PublishRefusal::Memory) => Answer::Memory(line),
+    }
+}

@@ -1,0 +1,206 @@
+ghost use Rattle.std.specs.Prelude.{◌≤◌, All, IfOk, length};
+ghost use Rattle.std.specs.Thread.{IsSync};
+ghost use Rattle.session_asks.specs.Replies.{IsAsk};
+ghost use Rattle.session_asks.specs.Seats.{AllHaveTaken, AllMayTake, AllReplied};
+ghost use Rattle.version_catalog.specs.Seats.{settings_of};
+
+use crate::{AskList, ask_session};
+use rack_aggregate::Gate;
+use replica_pick::Chooser;
+use reply_text::AnswerList;
+use std::alloc::{AllocError, Global};
+use std::sync::Wait;
+use std::thread::{Threads, join_mut};
+use version_catalog::{Catalogue, Session};
+
+// The answers of sessions, a list for each.
+type Answers = Result<Vec<AnswerList>, AllocError>;
+
+/// Answers the asks of sessions, at once where there are workers for it: the sessions are halved by the number
+/// of their asks into at most as many parts as there are workers. The sessions of a part are answered one
+/// after the other, and the workers are shared among the sessions that ask.
+pub fn ask_sessions<R: Threads + Wait + Sync, C: Chooser + Sync, G: Gate + Sync>(
+    rt: &R,
+    alloc: Global,
+    catalogue: &Catalogue,
+    sessions: &mut [Session],
+    asks: &[AskList],
+    workers: u32,
+    chooser: &C,
+    gate: &G,
+) -> Result<Vec<AnswerList>, AllocError>
+    requires workers { 1 ≤ workers }
+    requires may { AllMayTake catalogue.now sessions.old asks.now }
+    requires typed { All (All (IsAsk (settings_of catalogue.now).schema)) asks.now }
+    ensures taken { AllHaveTaken catalogue.now sessions.old sessions.new asks.now }
+    ensures replied { IfOk result (λ answers. AllReplied (settings_of catalogue.now).schema sessions.old sessions.new asks.now answers.items) }
+{
+    let each = share_of(workers, asking(asks));
+    ask_parts(
+        rt, alloc, catalogue, sessions, asks, workers, each, chooser, gate,
+    )
+}
+
+// How many lists have asks.
+fn asking(asks: &[AskList]) -> usize {
+    asks.iter().filter(|list| !list.is_empty()).count()
+}
+
+// The workers of each query, where so many sessions ask at once.
+pub(crate) fn share_of(workers: u32, asking: usize) -> u32
+    ensures { 1 ≤ result }
+{
+    let asking = u32::try_from(asking).unwrap_or(u32::MAX);
+    (workers / asking.max(1)).max(1)
+}
+
+// Answers sessions in so many parts at once, each query by so many workers.
+#[cycle(parts)]
+fn ask_parts<R: Threads + Wait + Sync, C: Chooser + Sync, G: Gate + Sync>(
+    rt: &R,
+    alloc: Global,
+    catalogue: &Catalogue,
+    sessions: &mut [Session],
+    asks: &[AskList],
+    parts: u32,
+    workers: u32,
+    chooser: &C,
+    gate: &G,
+) -> Answers
+    requires workers { 1 ≤ workers }
+    requires may { AllMayTake catalogue.now sessions.old asks.now }
+    requires typed { All (All (IsAsk (settings_of catalogue.now).schema)) asks.now }
+    ensures taken { AllHaveTaken catalogue.now sessions.old sessions.new asks.now }
+    ensures replied { IfOk result (λ answers. AllReplied (settings_of catalogue.now).schema sessions.old sessions.new asks.now answers.items) }
+{
+    if parts <= 1 || asking(asks) <= 1 {
+        return ask_in_turn(rt, alloc, catalogue, sessions, asks, workers, chooser, gate);
+    }
+    let middle = middle(asks);
+    let (front_asks, back_asks) = asks.split_at(middle);
+    let (front, back) = sessions.split_at_mut(middle);
+    let (answers, others) = ask_both(
+        rt, alloc, catalogue, front, front_asks, back, back_asks, parts, workers, chooser, gate,
+    );
+    let mut all = answers?;
+    let mut others = others?;
+    all.append(&mut others)?;
+    Ok(all)
+}
+
+// Answers two parts of sessions, at the same time: the front in half of so many parts, the back in the others.
+#[cycle(parts)]
+fn ask_both<R: Threads + Wait + Sync, C: Chooser + Sync, G: Gate + Sync>(
+    rt: &R,
+    alloc: Global,
+    catalogue: &Catalogue,
+    front: &mut [Session],
+    front_asks: &[AskList],
+    back: &mut [Session],
+    back_asks: &[AskList],
+    parts: u32,
+    workers: u32,
+    chooser: &C,
+    gate: &G,
+) -> (Answers, Answers)
+    requires parts { 2 ≤ parts }
+    requires workers { 1 ≤ workers }
+    requires front { AllMayTake catalogue.now front.old front_asks.now }
+    requires front_typed { All (All (IsAsk (settings_of catalogue.now).schema)) front_asks.now }
+    requires back { AllMayTake catalogue.now back.old back_asks.now }
+    requires back_typed { All (All (IsAsk (settings_of catalogue.now).schema)) back_asks.now }
+    ensures front { AllHaveTaken catalogue.now front.old front.new front_asks.now }
+    ensures front_answers { IfOk result.0 (λ answers. AllReplied (settings_of catalogue.now).schema front.old front.new front_asks.now answers.items) }
+    ensures back { AllHaveTaken catalogue.now back.old back.new back_asks.now }
+    ensures back_answers { IfOk result.1 (λ answers. AllReplied (settings_of catalogue.now).schema back.old back.new back_asks.now answers.items) }
+{
+    let few = parts / 2;
+    let more = parts - few;
+    join_mut(
+        rt,
+        &mut || -> Answers
+            requires sync { IsSync R.row × IsSync C.row × IsSync G.row }
+            requires workers { 1 ≤ workers }
+            requires may { AllMayTake catalogue.now front.now front_asks.now }
+            requires typed { All (All (IsAsk (settings_of catalogue.now).schema)) front_asks.now }
+            ensures taken { AllHaveTaken catalogue.entry.now front.entry.now front.exit.now front_asks.entry.now }
+            ensures answers { IfOk result (λ answers. AllReplied (settings_of catalogue.entry.now).schema front.entry.now front.exit.now front_asks.entry.now answers.items) }
+        {
+            ask_parts(
+                rt, alloc, catalogue, front, front_asks, few, workers, chooser, gate,
+            )
+        },
+        &mut || -> Answers
+            requires sync { IsSync R.row × IsSync C.row × IsSync G.row }
+            requires workers { 1 ≤ workers }
+            requires may { AllMayTake catalogue.now back.now back_asks.now }
+            requires typed { All (All (IsAsk (settings_of catalogue.now).schema)) back_asks.now }
+            ensures taken { AllHaveTaken catalogue.entry.now back.entry.now back.exit.now back_asks.entry.now }
+            ensures answers { IfOk result (λ answers. AllReplied (settings_of catalogue.entry.now).schema back.entry.now back.exit.now back_asks.entry.now answers.items) }
+        {
+            ask_parts(
+                rt, alloc, catalogue, back, back_asks, more, workers, chooser, gate,
+            )
+        },
+    )
+}
+
+// How many sessions are in front: the first that asks, and those after it while at most half of all asks are
+// in front. Where two sessions ask, one of them is behind.
+pub(crate) fn middle(asks: &[AskList]) -> usize
+    ensures { result ≤ length asks.now }
+{
+    let half = asks_of(asks) / 2;
+    let mut taken = 0_usize;
+    for (place, list) in asks.iter().enumerate() {
+        let with = taken.saturating_add(list.len());
+        if taken > 0 && with > half {
+            return place;
+        }
+        taken = with;
+    }
+    asks.len()
+}
+
+// How many asks there are.
+fn asks_of(asks: &[AskList]) -> usize {
+    let mut all = 0_usize;
+    for list in asks {
+        all = all.saturating_add(list.len());
+    }
+    all
+}
+
+// Answers sessions one after the other.
+fn ask_in_turn<R: Threads + Wait + Sync, C: Chooser + Sync, G: Gate + Sync>(
+    rt: &R,
+    alloc: Global,
+    catalogue: &Catalogue,
+    sessions: &mut [Session],
+    asks: &[AskList],
+    workers: u32,
+    chooser: &C,
+    gate: &G,
+) -> Answers
+    requires workers { 1 ≤ workers }
+    requires may { AllMayTake catalogue.now sessions.old asks.now }
+    requires typed { All (All (IsAsk (settings_of catalogue.now).schema)) asks.now }
+    ensures taken { AllHaveTaken catalogue.now sessions.old sessions.new asks.now }
+    ensures replied { IfOk result (λ answers. AllReplied (settings_of catalogue.now).schema sessions.old sessions.new asks.now answers.items) }
+{
+    let mut all = Vec::new(alloc);
+    for place in 0..asks.len() {
+        let answers = ask_session(
+            rt,
+            alloc,
+            catalogue,
+            &mut sessions[place],
+            &asks[place],
+            workers,
+            chooser,
+            gate,
+        )?;
+        all.push(answers)?;
+    }
+    Ok(all)
+}
