@@ -1,7 +1,7 @@
 //! Scripts with the texts that answer them, as they were worked out by hand.
 ghost use Rattle.uni_base.specs.StandardLimits.{IsWithinStandard};
 
-use crate::{FirstChooser, OpenGate, TurnChooser, run_plain, serve_rounds};
+use crate::{Chooser, FirstChooser, Gate, OpenGate, Status, TurnChooser, run_plain, serve_rounds};
 use std::alloc::Global;
 use std::process::Abort;
 use std::sync::Wait;
@@ -11,9 +11,13 @@ use uni_base::{Limits, MemorySink, MemorySource, Rows, Text, cut_at};
 
 mod faults;
 mod forms;
+mod gates;
+mod judge;
 mod limits;
+mod many;
 mod modes;
 mod operators;
+mod random;
 mod second_format;
 mod versions;
 mod viewers;
@@ -180,4 +184,77 @@ fn are_answered<R: Abort + Threads + Wait + Sync>(
         )?;
     }
     Ok(())
+}
+
+// Answers each row of a table line by line.
+fn are_answered_in_line<R: Abort + Threads + Wait + Sync>(
+    rt: &R,
+    alloc: Global,
+    front: &[u8],
+    table: &[u8],
+) -> Result<(), Fail> {
+    for row in rows(alloc, table)?.as_slice() {
+        let (lines, want) = cut_at(row.as_slice(), b'=').ok_or("no row")?;
+        let want = text(alloc, &[PUBLISHED, want])?;
+        let mut source = whole(alloc, text(alloc, &[front, GRAPH, lines])?)?;
+        let mut sink = roomy(alloc)?;
+        ends(
+            rt,
+            alloc,
+            Mode::Plain,
+            Limits::standard(),
+            &mut source,
+            &mut sink,
+            (want.as_slice(), 0),
+        );
+    }
+    Ok(())
+}
+
+// The numbers of workers that a service is tried with.
+const CREWS: [u32; 3] = [1, 4, 64];
+
+// More bytes than any answer of these tests has.
+const ROOM: usize = 4_194_304;
+
+// A script in one piece, as it is.
+fn piece(alloc: Global, script: &[u8]) -> Result<MemorySource, Fail> {
+    let mut text = Rows::new(alloc);
+    text.extend_from_slice(script)?;
+    whole(alloc, text)
+}
+
+// What a service of one, four or else 64 workers answers to a script.
+fn served<R: Threads + Wait + Sync, C: Chooser + Sync, G: Gate + Sync>(
+    rt: &R,
+    alloc: Global,
+    script: &[u8],
+    workers: u32,
+    chooser: &C,
+    gate: &G,
+) -> Result<MemorySink, Fail> {
+    let limits = Limits::standard();
+    let mut source = piece(alloc, script)?;
+    let mut sink = MemorySink::new(alloc, ROOM, ROOM, Vec::new(alloc))?;
+    let ended = match workers {
+        1 => serve_rounds(rt, alloc, limits, 1, &mut source, &mut sink, chooser, gate),
+        4 => serve_rounds(rt, alloc, limits, 4, &mut source, &mut sink, chooser, gate),
+        _ => serve_rounds(rt, alloc, limits, 64, &mut source, &mut sink, chooser, gate),
+    };
+    if ended == Status::Done {
+        Ok(sink)
+    } else {
+        Err("a script was not served to its end")?
+    }
+}
+
+// What answers a script line by line.
+fn plainly(alloc: Global, script: &[u8]) -> Result<MemorySink, Fail> {
+    let mut source = piece(alloc, script)?;
+    let mut sink = MemorySink::new(alloc, ROOM, ROOM, Vec::new(alloc))?;
+    if run_plain(alloc, Limits::standard(), &mut source, &mut sink) == Status::Done {
+        Ok(sink)
+    } else {
+        Err("a script was not answered to its end")?
+    }
 }
