@@ -82,7 +82,7 @@ def edge(text):
     return f"{name('user', source)} is tagged in {name('photo', target)}"
 
 
-def show(question, answer):
+def show(question, vertical, answer):
     words, hits = answer
     if words[0] != "reply":
         print(f"  {question}: {' '.join(words)}")
@@ -90,7 +90,7 @@ def show(question, answer):
     print(f"  {question}, at version {words[3]}:")
     for hit in hits:
         _, number, _, *lineage = hit.split()
-        print(f"    {number}, since " + ", and ".join(edge(it) for it in lineage))
+        print(f"    {name(vertical, number)}, since " + ", and ".join(edge(it) for it in lineage))
 
 
 def main():
@@ -106,13 +106,13 @@ def main():
     print("Two sessions ask while a change is published; each may see the version before it or the one after.")
     friends, photos = "ask 9 1 10 friend:1", "ask 9 2 10 (apply tagged: friend:1)"
     first, answers = service.round([friends, "edge friend 1 4 public", "edge tagged 4 101 public", "publish", photos])
-    show("Eve asks for the friends of Ada", answers[first])
-    show("Eve asks for the photos of the friends of Ada", answers[first + 4])
+    show("Eve asks for the friends of Ada", "user", answers[first])
+    show("Eve asks for the photos of the friends of Ada", "photo", answers[first + 4])
 
     print("Afterwards both see the last version.")
     first, answers = service.round([friends, photos])
-    show("Eve asks for the friends of Ada", answers[first])
-    show("Eve asks for the photos of the friends of Ada", answers[first + 1])
+    show("Eve asks for the friends of Ada", "user", answers[first])
+    show("Eve asks for the photos of the friends of Ada", "photo", answers[first + 1])
 
     print(f"The service ends with status {service.close()}.")
 
