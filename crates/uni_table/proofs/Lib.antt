@@ -20,6 +20,7 @@ pub mod GraphGrown
 pub mod GraphLed
 pub mod GraphLists
 pub mod GraphNames
+pub mod GraphOrdered
 pub mod GraphPlaces
 pub mod GraphSettled
 pub mod GraphWalks
@@ -30,6 +31,7 @@ mod Keys
 mod Leaving
 pub mod Listed
 mod Permuted
+mod PickedInOrder
 mod Placed
 pub mod Published
 mod RankedIn

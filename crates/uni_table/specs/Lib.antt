@@ -5,6 +5,7 @@ pub mod Example
 pub mod Commands
 pub mod GraphChanges
 pub mod GraphKeys
+pub mod GraphOrder
 pub mod GraphRows
 pub mod GraphState
 pub mod Journals

@@ -1,6 +1,6 @@
 ghost use Rattle.std.specs.Prelude.{◌≡◌, ◌<◌, ◌==◌, ◌&&◌, not, length, map, filter, IfOk, OnOk, OnErr, IsPermutation};
 ghost use Rattle.uni_table.specs.Added.{Adds};
-ghost use Rattle.uni_table.specs.Changes.{HasEdgeChanges, HasEntityChanges};
+ghost use Rattle.uni_table.specs.Changes.{AreEdgeChanges, HasEntityChanges};
 
 mod batches;
 mod changes;
@@ -9,6 +9,7 @@ mod ends;
 mod entities;
 mod lists;
 mod numbers;
+mod order;
 mod rows;
 mod touched;
 mod walks;
@@ -188,10 +189,10 @@ impl Graph {
         self.rows.entity_changes(alloc)
     }
 
-    /// The edges that differ from what they were then, or lead to an entity with another rank, in some
-    /// order.
+    /// The edges that differ from what they were then, or lead to an entity with another rank, by type
+    /// number, key and target.
     pub fn edge_changes(&self, alloc: Global) -> Result<Vec<EdgeChange>, AllocError>
-        ensures { IfOk result (λ changes. HasEdgeChanges self.now.published self.now.contents changes.items) }
+        ensures { IfOk result (λ changes. AreEdgeChanges self.now.published self.now.contents changes.items) }
     {
         self.rows.edge_changes(alloc)
     }

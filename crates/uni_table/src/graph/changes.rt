@@ -2,11 +2,13 @@
 ghost use Rattle.std.specs.Prelude.{◌≡◌, ◌++◌, ◌∷◌, [], false, length, nat_eq, slice_get, IfOk, OnOk};
 ghost use Rattle.std.specs.List.{IsDistinct, filter_map};
 ghost use Rattle.std.specs.Option.{option_map, option_map_or, option_to_list};
-ghost use Rattle.uni_table.specs.Changes.{HasEdgeChanges, HasEntityChanges};
-ghost use Rattle.uni_table.specs.GraphChanges.{edge_change_at, entity_change_at, has_moved, is_affected, AddsLed, AddsLedBy, AddsMoved, AreAffected};
+ghost use Rattle.uni_table.specs.Changes.{AreEdgeChanges, HasEntityChanges};
+ghost use Rattle.uni_table.specs.GraphChanges.{entity_change_at, has_moved, is_affected, AddsLed, AddsLedBy, AddsMoved, AreAffected};
+ghost use Rattle.uni_table.specs.GraphOrder.{placed_change};
 ghost use Rattle.uni_table.specs.GraphRows.{contents_of, published_of, IsRows};
 
 use super::numbers::{EdgeNo, Side, Slot};
+use super::order::PlacedEdge;
 use super::rows::Rows;
 use crate::{EdgeChange, EdgeRow, EntityChange};
 use std::alloc::{AllocError, Global};
@@ -22,8 +24,8 @@ fn row_with(audience: Option<Audience>, end: u64) -> Option<EdgeRow>
     }
 }
 
-// Adds an item to a list.
-fn push<T: Drop>(items: &mut Vec<T>, item: T) -> Result<(), AllocError>
+/// Adds an item to a list.
+pub(super) fn push<T: Drop>(items: &mut Vec<T>, item: T) -> Result<(), AllocError>
     ensures { OnOk result (items.new.items ≡ items.old.items ++ item ∷ []) }
 {
     items.push(item)?;
@@ -94,18 +96,22 @@ impl Rows {
         slot.is_changed() || (slot.state.is_live() && self.has_moved(number.target as usize))
     }
 
-    // Adds the change of the edge at a place to a list, if it is affected.
-    fn add_edge_change(&self, place: usize, changes: &mut Vec<EdgeChange>) -> Result<(), AllocError>
+    // Adds the change of an edge to a list, if it is affected.
+    fn add_edge_change(
+        &self,
+        edge: &PlacedEdge,
+        changes: &mut Vec<EdgeChange>,
+    ) -> Result<(), AllocError>
         requires { IsRows self.now }
-        ensures { OnOk result (changes.new.items ≡ changes.old.items ++ option_to_list (edge_change_at self.now place)) }
+        ensures { OnOk result (changes.new.items ≡ changes.old.items ++ option_to_list (placed_change self.now edge.now)) }
     {
-        let Some((number, slot)) = self.edges.get_index(place) else {
+        let Some((number, slot)) = self.edges.get_index(edge.place as usize) else {
             return Ok(());
         };
         if !self.is_affected(*number, slot) {
             return Ok(());
         }
-        let named = self.edge_ref(*number);
+        let named = self.edge_of(edge);
         let key = named.key;
         let edge = EdgeRef {
             type_no: named.type_no,
@@ -173,25 +179,31 @@ impl Rows {
         Ok(places)
     }
 
-    // The changes of the edges at places, those that are affected.
-    fn edge_changes_at(&self, alloc: Global, places: &[u32]) -> Result<Vec<EdgeChange>, AllocError>
+    // The changes of edges in their order, those that are affected.
+    fn edge_changes_at(
+        &self,
+        alloc: Global,
+        edges: &[PlacedEdge],
+    ) -> Result<Vec<EdgeChange>, AllocError>
         requires { IsRows self.now }
-        ensures { IfOk result (λ changes. changes.items ≡ filter_map (edge_change_at self.now) places.now) }
+        ensures { IfOk result (λ changes. changes.items ≡ filter_map (placed_change self.now) edges.now) }
     {
-        let mut changes = Vec::new(alloc);
-        for place in places {
-            let place = *place;
-            self.add_edge_change(place as usize, &mut changes)?;
+        let mut changes = Vec::with_capacity(alloc, edges.len())?;
+        for edge in edges {
+            self.add_edge_change(edge, &mut changes)?;
         }
         Ok(changes)
     }
 
-    /// The changes of the edges that differ or lead to an id with another rank, in some order.
+    /// The changes of the edges that differ, or lead to an id with another rank, by type number, key and
+    /// target. What is sorted are their places, and each change is made once.
     pub fn edge_changes(&self, alloc: Global) -> Result<Vec<EdgeChange>, AllocError>
         requires { IsRows self.now }
-        ensures { IfOk result (λ changes. HasEdgeChanges (published_of self.now) (contents_of self.now) changes.items) }
+        ensures { IfOk result (λ changes. AreEdgeChanges (published_of self.now) (contents_of self.now) changes.items) }
     {
         let places = self.affected(alloc)?;
-        self.edge_changes_at(alloc, places.as_slice())
+        let edges = self.placed_edges(alloc, places.as_slice())?;
+        let edges = self.in_order(edges);
+        self.edge_changes_at(alloc, edges.as_slice())
     }
 }

@@ -6,7 +6,7 @@ ghost use Rattle.uni_table.specs.Lists.{held_of};
 
 use crate::Table;
 use crate::graph::Graph;
-use std::alloc::{AllocError, Global};
+use std::alloc::AllocError;
 use uni_base::{DocList, EdgeList, EntityId, Held, HeldList, Key};
 
 impl Table {
@@ -23,9 +23,7 @@ impl Table {
             .graph
             .members(self.alloc, &self.schema, vertical, shard)?;
         docs.sort_unstable();
-        let mut list = DocList::new(self.alloc);
-        list.extend_from_slice(docs.as_slice())?;
-        Ok(list)
+        Ok(DocList::from_vec(docs))
     }
 
     /// The edges that leave or reach an id, by type number, key and target. It costs these edges and a
@@ -38,7 +36,7 @@ impl Table {
         // An edge from the id to itself is among those that reach it.
         held.retain(|held| held.edge.target != id);
         self.graph.add_into(id, &mut held)?;
-        in_order(self.alloc, held)
+        Ok(in_order(held))
     }
 
     /// The edges that `end` takes out at a publish, by end, type number, key and target. It costs these
@@ -72,13 +70,11 @@ fn add_leaving(
 }
 
 /// The same edges by type number, key and target.
-pub(crate) fn in_order(alloc: Global, held: Vec<Held>) -> Result<HeldList, AllocError>
-    ensures permutation { IfOk result (λ list. IsPermutation held.items list) }
-    ensures sorted { IfOk result (λ list. IsSortedByKey (λ h. h.edge) edge_cmp list) }
+pub(crate) fn in_order(held: Vec<Held>) -> HeldList
+    ensures permutation { IsPermutation held.items result }
+    ensures sorted { IsSortedByKey (λ h. h.edge) edge_cmp result }
 {
     let mut held = held;
     held.sort_unstable_by_key(|held| held.edge);
-    let mut list = HeldList::new(alloc);
-    list.extend_from_slice(held.as_slice())?;
-    Ok(list)
+    HeldList::from_vec(held)
 }

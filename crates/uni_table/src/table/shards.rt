@@ -34,7 +34,7 @@ impl Table {
             docs.as_slice(),
             &mut held,
         )?;
-        in_order(self.alloc, held)
+        Ok(in_order(held))
     }
 }
 

@@ -1,12 +1,9 @@
 use Rattle.std.proofs.Common.{subst}
-use Rattle.std.specs.List.Sorted.{IsPermutation, IsSortedByKey}
 use Rattle.std.specs.Cmp.{nat_cmp_total}
-use Rattle.std.specs.Ordering.{nat_cmp}
 use Rattle.std.proofs.lemmas.Map.Lookups.{exact_unsigned}
 use Rattle.uni_table.specs.Changes.{AreEntityChanges, IsEntityChange}
 use Rattle.uni_table.specs.TableState.{TableState}
 use Rattle.uni_table.specs.declared.change.EntityChange.{EntityChange}
-use Rattle.uni_table.proofs.Additions.{ok_both}
 use Rattle.uni_table.proofs.InOrder.{exact_in_order}
 use Rattle.uni_table.proofs.table.Table.changed_entities.Goals as goal
 
@@ -14,8 +11,6 @@ pub returns : goal.returns
 returns c =
     let graph = c.self.inside.graph in
     let found = c.in_ok-changes.ensures in
-    ok_both c.by_id.result (IsPermutation c.in_ok-changes.changes.items) (IsSortedByKey (λ (x : EntityChange). x.id) nat_cmp) (AreEntityChanges c.args.self.now.published c.args.self.now.contents)
-    (λ list same up.
-    let told = exact_in_order (λ (x : EntityChange). x.id) nat_cmp_total exact_unsigned (IsEntityChange graph.published graph.contents) c.in_ok-changes.changes.items list found.exact found.apart same up in
-    subst (λ (t : TableState). AreEntityChanges t.published t.contents list) c.self.view_is (record { exact = told.0; sorted = told.1 }))
-    c.by_id.ensures.permutation c.by_id.ensures.sorted
+    let told = exact_in_order (λ (x : EntityChange). x.id) nat_cmp_total exact_unsigned (IsEntityChange graph.published graph.contents) c.in_ok-changes.changes.items c.by_id.result
+    found.exact found.apart c.by_id.ensures.permutation c.by_id.ensures.sorted in
+    subst (λ (t : TableState). AreEntityChanges t.published t.contents c.by_id.result) c.self.view_is (record { exact = told.0; sorted = told.1 })

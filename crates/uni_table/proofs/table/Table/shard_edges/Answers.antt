@@ -1,9 +1,8 @@
-use Rattle.std.proofs.Common.{◌≡◌, List, [], map, filter, ap, subst, sym, ◌∙◌}
-use Rattle.std.specs.List.Sorted.{IsPermutation, IsSortedByKey}
+use Rattle.std.proofs.Common.{List, [], map, filter, ap, subst, sym, ◌∙◌}
+use Rattle.std.specs.List.Sorted.{IsPermutation}
 use Rattle.uni_base.specs.declared.edge.EdgeRef.{EdgeRef}
 use Rattle.uni_base.specs.declared.edge.Held.{Held}
 use Rattle.uni_base.specs.declared.entity.DocKey.{DocKey}
-use Rattle.uni_base.specs.EdgeOrder.{edge_cmp}
 use Rattle.uni_schema.specs.Schema.{Declarations}
 use Rattle.uni_table.specs.Added.{Adds}
 use Rattle.uni_table.specs.Lists.{held_of, shard_edges}
@@ -11,7 +10,7 @@ use Rattle.uni_table.specs.Ranked.{doc_of, is_of_shard}
 use Rattle.uni_table.specs.Shards.{AreApart, AreDeclared, reaches_any, leaves_any_forward, is_indexed}
 use Rattle.uni_table.specs.TableState.{TableState}
 use Rattle.uni_table.specs.declared.command.EdgeRow.{EdgeRow}
-use Rattle.uni_table.proofs.Additions.{ok_both, adds_all}
+use Rattle.uni_table.proofs.Additions.{adds_all}
 use Rattle.uni_table.proofs.ShardEdges.{members_apart, all_declared, shard-is}
 use Rattle.uni_table.proofs.table.Table.shard_edges.Goals as goal
 
@@ -61,7 +60,5 @@ returns c =
     let three : Adds indexed all (map held_of (filter (λ (e : EdgeRef × EdgeRow). leaves_any_forward schema c.args.vertical docs e.0) graph.edges)) =
     subst (λ (s : Declarations). Adds indexed all (map held_of (filter (λ (e : EdgeRef × EdgeRow). leaves_any_forward s c.args.vertical docs e.0) graph.edges))) c.deref-3.ensures
     (subst (λ (ks : List DocKey). Adds indexed all (map held_of (filter (λ (e : EdgeRef × EdgeRow). leaves_any_forward c.deref-3.result.now c.args.vertical ks e.0) graph.edges))) c.as_slice-3.ensures.value c.in_ok-add_forward.ensures) in
-    ok_both c.in_order.result (IsPermutation all) (IsSortedByKey (λ (h : Held). h.edge) edge_cmp) (λ held. held ≡ shard_edges c.args.self.now.schema c.args.self.now.contents c.args.vertical c.args.shard)
-    (λ held permuted up.
-    shard-is schema c.self.inside.limits graph c.self.invariant.contents c.args.vertical c.args.shard docs same reaching indexed all held one two three permuted up
-    ∙ ap (λ (t : TableState). shard_edges t.schema t.contents c.args.vertical c.args.shard) c.self.view_is) c.in_order.ensures.permutation c.in_order.ensures.sorted
+    shard-is schema c.self.inside.limits graph c.self.invariant.contents c.args.vertical c.args.shard docs same reaching indexed all c.in_order.result one two three c.in_order.ensures.permutation c.in_order.ensures.sorted
+    ∙ ap (λ (t : TableState). shard_edges t.schema t.contents c.args.vertical c.args.shard) c.self.view_is

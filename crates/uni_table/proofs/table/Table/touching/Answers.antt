@@ -1,16 +1,13 @@
 use Rattle.std.proofs.Common.{◌≡◌, ◌==◌, List, [], not, length, filter, map, rules, ap, subst, ◌∙◌}
 use Rattle.std.proofs.lemmas.Fn.{filter_same}
-use Rattle.std.specs.List.Sorted.{IsPermutation, IsSortedByKey}
 use Rattle.uni_base.specs.declared.edge.EdgeRef.{EdgeRef}
 use Rattle.uni_base.specs.declared.edge.Held.{Held}
-use Rattle.uni_base.specs.EdgeOrder.{edge_cmp}
 use Rattle.uni_schema.specs.Schema.{Declarations}
 use Rattle.uni_table.specs.Added.{Adds}
 use Rattle.uni_table.specs.Contents.{leaves_below, reaches}
 use Rattle.uni_table.specs.Lists.{held_of, touching}
 use Rattle.uni_table.specs.TableState.{TableState}
 use Rattle.uni_table.specs.declared.command.EdgeRow.{EdgeRow}
-use Rattle.uni_table.proofs.Additions.{ok_both}
 use Rattle.uni_table.proofs.Compared.{same_either_way}
 use Rattle.uni_table.proofs.Touching.{touching-is}
 use Rattle.uni_table.proofs.table.Table.touching.Goals as goal
@@ -27,7 +24,6 @@ returns c =
     filter_same _ (λ (h : Held). not (reaches c.args.id h.edge)) _
     (λ x b q k. let is : b ≡ not (x.edge.target == c.args.id) = search rules in (is ∙ ap not (same_either_way x.edge.target c.args.id), search rules)) c.add_leaving.new.held.items c.retain.new.self.items c.retain.ensures.filtered in
     let same : graph ≡ c.args.self.now.contents = ap (λ (t : TableState). t.contents) c.self.view_is in
-    ok_both c.in_order.result (IsPermutation c.add_into.new.held.items) (IsSortedByKey (λ (h : Held). h.edge) edge_cmp) (λ held. held ≡ touching c.args.self.now.contents c.args.id)
-    (λ held permuted up.
-    touching-is schema c.self.inside.limits graph c.self.invariant.contents c.args.id c.add_leaving.new.held.items c.retain.new.self.items c.add_into.new.held.items held leaving left c.in_ok-add_into.ensures permuted up
-    ∙ ap (λ (g : _). touching g c.args.id) same) c.in_order.ensures.permutation c.in_order.ensures.sorted
+    touching-is schema c.self.inside.limits graph c.self.invariant.contents c.args.id c.add_leaving.new.held.items c.retain.new.self.items c.add_into.new.held.items c.in_order.result leaving left c.in_ok-add_into.ensures
+    c.in_order.ensures.permutation c.in_order.ensures.sorted
+    ∙ ap (λ (g : _). touching g c.args.id) same

@@ -1,4 +1,4 @@
-use Rattle.std.proofs.Common.{◌≡◌, List, ◌++◌, rules, ap, subst, sym, ◌∙◌}
+use Rattle.std.proofs.Common.{rules, sym, subst}
 use Rattle.std.proofs.lemmas.List.Sorted.{answers_always}
 use Rattle.std.specs.List.Sorted.{IsSortedByKey}
 use Rattle.std.specs.Ordering.{nat_cmp}
@@ -9,6 +9,4 @@ pub returns-clause-sorted : goal.returns-clause-sorted
 returns-clause-sorted c =
     let up : IsSortedByKey (λ (x : EntityChange). x.id) nat_cmp c.sort_unstable_by_key.new.self.items =
     c.sort_unstable_by_key.ensures.sorted (λ (x : EntityChange). x.id) (answers_always _ _ _ (λ f a r g k. search rules)) in
-    let whole : c.extend_from_slice.new.self ≡ c.sort_unstable_by_key.new.self.items =
-    c.in_ok-extend_from_slice.ensures.ok ∙ ap (λ (old : List EntityChange). old ++ c.as_slice.result.now) c.new-list.ensures ∙ c.as_slice.ensures.value in
-    subst (IsSortedByKey (λ (x : EntityChange). x.id) nat_cmp) (sym whole) up
+    subst (IsSortedByKey (λ (x : EntityChange). x.id) nat_cmp) (sym c.from_vec.ensures) up

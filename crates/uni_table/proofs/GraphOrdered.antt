@@ -1,0 +1,88 @@
+-- The changes of edges, as they are made of places in the order of the edges.
+use Rattle.std.proofs.Common.{◌≡◌, ℕ, Bool, true, false, if◌then◌else◌, List, [], ◌∷◌, Option, None, Some, refl, sym, ◌∙◌, ap, subst, length, slice_get, nat_eq, ◌<◌}
+use Rattle.std.proofs.lemmas.Map.Entries.{length-keys_of}
+use Rattle.std.proofs.lemmas.Option.{slice_get-get_or}
+use Rattle.std.specs.List.{IsDistinct, filter_map, cons_option}
+use Rattle.std.specs.List.Sorted.{IsPermutation, IsSortedByKey}
+use Rattle.std.specs.Map.{keys_of}
+use Rattle.std.specs.Option.{option_map, option_map_or, option_and_then}
+use Rattle.uni_base.specs.declared.edge.EdgeRef.{EdgeRef}
+use Rattle.uni_base.specs.declared.edge.Key.{Key}
+use Rattle.uni_base.specs.declared.edge.Key.TheVariants.{Id, Word}
+use Rattle.uni_base.specs.EdgeOrder.{edge_cmp}
+use Rattle.uni_table.specs.Changes.{AreEdgeChanges, IsEdgeChange}
+use Rattle.uni_table.specs.GraphChanges.{AreAffected, edge_change, edge_change_at, is_affected}
+use Rattle.uni_table.specs.GraphKeys.{edge_total, exact_edges}
+use Rattle.uni_table.specs.GraphOrder.{short_key, key_meant, edge_told, placed, placed_at, change_told, placed_change}
+use Rattle.uni_table.specs.GraphRows.{IsRows, contents_of, published_of, edge_named, source_named, row_before, row_of}
+use Rattle.uni_table.specs.declared.change.EdgeChange.{EdgeChange}
+use Rattle.uni_table.specs.declared.graph.numbers.EdgeNo.{EdgeNo}
+use Rattle.uni_table.specs.declared.graph.numbers.Slot.{Slot}
+use Rattle.uni_table.specs.declared.graph.numbers.Source.{Source}
+use Rattle.uni_table.specs.declared.graph.order.PlacedEdge.{PlacedEdge}
+use Rattle.uni_table.specs.declared.graph.rows.Rows.{Rows}
+use Rattle.uni_table.proofs.GraphChanged.{all-edges}
+use Rattle.uni_table.proofs.InOrder.{exact_in_order}
+use Rattle.uni_table.proofs.Permuted.{permuted-filter_map}
+use Rattle.uni_table.proofs.PickedInOrder.{IsNamed, picked_in_order}
+
+-- a key in few bytes stands for the key, where the source has it
+meant : (sources : List Source) (number id : ℕ) (source : Source) (key : Key) → slice_get sources number ≡ Some source → source.key ≡ key → key_meant sources id (short_key number key) ≡ key
+meant sources number id source (Id a) at is = refl
+meant sources number id source (Word text) at is = ap (λ (o : Option Source). option_map_or (λ s. s.key) o (Id id)) at ∙ is
+
+module _ (rows : Rows) where
+  abbrev named : EdgeNo × Slot → EdgeRef
+  named e = edge_named (keys_of rows.sources.entries) (keys_of rows.ids.entries) e.0
+
+  -- the change of an edge is told by that edge
+  told-change : (p : PlacedEdge) → IsNamed (edge_told rows) (λ (c : EdgeChange). c.edge) (placed_change rows) edge_total p
+  told-change p c is = by (slice_get rows.edges.entries p.place) is
+    where
+      made : (e : EdgeNo × Slot) (b : Bool) → (if b then Some (record {
+        edge = edge_told rows p;
+        before = row_before (keys_of rows.sources.entries) e.1.before (row_of (keys_of rows.sources.entries) e.1.state e.1.end);
+        after = row_of (keys_of rows.sources.entries) e.1.state e.1.end;
+      }) else None) ≡ Some c → c.edge ≡ edge_told rows p
+      made e false h = cc
+      made e true h = cc
+
+      by : (o : Option (EdgeNo × Slot)) → option_and_then (change_told rows (edge_told rows p)) o ≡ Some c → c.edge ≡ edge_told rows p
+      by None h = cc
+      by (Some e) h = made e (is_affected rows e) h
+
+  module _ (kept : IsRows rows) where
+    -- the edge at a place is told by what it is ordered by
+    told : (place : ℕ) (e : EdgeNo × Slot) → slice_get rows.edges.entries place ≡ Some e → edge_told rows (placed e.0 place (named e)) ≡ named e
+    told place e at =
+        let sources = keys_of rows.sources.entries in
+        let within : e.0.source < length sources = subst (λ n. e.0.source < n) (sym (length-keys_of rows.sources.entries)) (kept.known place e at).source in
+        let key = meant sources e.0.source (named e).target (source_named sources e.0.source) (named e).key
+        (slice_get-get_or sources e.0.source (record { type_no = 0; key = Id 0 }) within) refl in
+        λ j. record { type_no = (named e).type_no; key = key j; target = (named e).target }
+
+    -- so the changes at places are those of the edges there
+    picks : (places : List ℕ) → filter_map (placed_change rows) (filter_map (placed_at rows) places) ≡ filter_map (edge_change_at rows) places
+    picks [] = refl
+    picks (p ∷ ps) = by (slice_get rows.edges.entries p) refl (picks ps)
+      where
+        by : (o : Option (EdgeNo × Slot)) → slice_get rows.edges.entries p ≡ o → filter_map (placed_change rows) (filter_map (placed_at rows) ps) ≡ filter_map (edge_change_at rows) ps
+            → filter_map (placed_change rows) (cons_option (option_map (λ e. placed e.0 p (named e)) o) (filter_map (placed_at rows) ps))
+            ≡ cons_option (option_and_then (edge_change rows) o) (filter_map (edge_change_at rows) ps)
+        by None is rest = rest
+        by (Some e) is rest =
+            ap (λ (o : Option (EdgeNo × Slot)). cons_option (option_and_then (change_told rows (edge_told rows (placed e.0 p (named e)))) o) (filter_map (placed_change rows) (filter_map (placed_at rows) ps))) is
+            ∙ (λ j. cons_option (change_told rows (told p e is j) e) (rest j))
+
+    -- the changes of edges in order, where all that are affected are among them
+    pub changes-in-order : (places : List ℕ) → IsDistinct nat_eq places → AreAffected rows places → (edges : List PlacedEdge) → IsPermutation (filter_map (placed_at rows) places) edges
+        → IsSortedByKey (edge_told rows) edge_cmp edges → AreEdgeChanges (published_of rows) (contents_of rows) (filter_map (placed_change rows) edges)
+    changes-in-order places apart all edges permuted sorted =
+        let found = all-edges rows kept places apart all in
+        let same : IsPermutation (filter_map (edge_change_at rows) places) (filter_map (placed_change rows) edges) =
+        subst (λ (cs : List EdgeChange). IsPermutation cs (filter_map (placed_change rows) edges)) (picks places)
+        (permuted-filter_map (placed_change rows) (filter_map (placed_at rows) places) edges permuted) in
+        let up = picked_in_order (edge_told rows) (λ (c : EdgeChange). c.edge) (placed_change rows) edge_total told-change edges sorted in
+        let exact = exact_in_order (λ (c : EdgeChange). c.edge) edge_total exact_edges (IsEdgeChange (published_of rows) (contents_of rows)) (filter_map (edge_change_at rows) places) (filter_map (placed_change rows) edges)
+        found.exact found.apart same up in
+        record { exact = exact.0; sorted = exact.1 }

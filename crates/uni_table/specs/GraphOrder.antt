@@ -1,0 +1,54 @@
+-- Edges by their places, with what they are ordered by.
+use Rattle.std.specs.Prelude.{ℕ, List, Option, None, Some, slice_get, if◌then◌else◌}
+use Rattle.std.specs.Map.{keys_of}
+use Rattle.std.specs.Option.{option_and_then, option_map, option_map_or}
+use Rattle.uni_base.specs.declared.edge.EdgeRef.{EdgeRef}
+use Rattle.uni_base.specs.declared.edge.Key.{Key}
+use Rattle.uni_base.specs.declared.edge.Key.TheVariants.{Id, Word}
+use Rattle.uni_table.specs.GraphChanges.{is_affected}
+use Rattle.uni_table.specs.GraphRows.{edge_named, row_before, row_of}
+use Rattle.uni_table.specs.declared.change.EdgeChange.{EdgeChange}
+use Rattle.uni_table.specs.declared.graph.numbers.EdgeNo.{EdgeNo}
+use Rattle.uni_table.specs.declared.graph.numbers.Slot.{Slot}
+use Rattle.uni_table.specs.declared.graph.numbers.Source.{Source}
+use Rattle.uni_table.specs.declared.graph.order.PlacedEdge.{PlacedEdge}
+use Rattle.uni_table.specs.declared.graph.order.ShortKey.{ShortKey}
+use Rattle.uni_table.specs.declared.graph.order.ShortKey.TheVariants as short
+use Rattle.uni_table.specs.declared.graph.rows.Rows.{Rows}
+
+-- a key in few bytes: an id, or a word by the number of a source that has it
+abbrev pub short_key : ℕ → Key → ShortKey
+short_key source (Id id) = short.Id id
+short_key source (Word text) = short.Word source
+
+-- the key that it stands for, or an id where there is no such source
+abbrev pub key_meant : List Source → ℕ → ShortKey → Key
+key_meant sources id (short.Id source) = Id source
+key_meant sources id (short.Word number) = option_map_or (λ source. source.key) (slice_get sources number) (Id id)
+
+abbrev pub key_told : List Source → PlacedEdge → Key
+key_told sources edge = key_meant sources edge.target edge.key
+
+-- the edge itself
+abbrev pub edge_told : Rows → PlacedEdge → EdgeRef
+edge_told rows edge = record { type_no = edge.type_no; key = key_told (keys_of rows.sources.entries) edge; target = edge.target }
+
+-- a named edge in few bytes, with its place
+abbrev pub placed : EdgeNo → ℕ → EdgeRef → PlacedEdge
+placed number place edge = record { type_no = edge.type_no; key = short_key number.source edge.key; target = edge.target; place = place }
+
+-- the edge at a place
+abbrev pub placed_at : Rows → ℕ → Option PlacedEdge
+placed_at rows place = option_map (λ e. placed e.0 place (edge_named (keys_of rows.sources.entries) (keys_of rows.ids.entries) e.0)) (slice_get rows.edges.entries place)
+
+-- its change by what stands at its place, if it is affected
+abbrev pub change_told : Rows → EdgeRef → EdgeNo × Slot → Option EdgeChange
+change_told rows edge e =
+    if is_affected rows e then Some (record {
+      edge = edge;
+      before = row_before (keys_of rows.sources.entries) e.1.before (row_of (keys_of rows.sources.entries) e.1.state e.1.end);
+      after = row_of (keys_of rows.sources.entries) e.1.state e.1.end;
+    }) else None
+
+abbrev pub placed_change : Rows → PlacedEdge → Option EdgeChange
+placed_change rows edge = option_and_then (change_told rows (edge_told rows edge)) (slice_get rows.edges.entries edge.place)

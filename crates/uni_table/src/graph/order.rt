@@ -1,0 +1,134 @@
+//! Edges by their places, in the order of type numbers, keys and targets.
+ghost use Rattle.std.specs.Prelude.{◌≡◌, ◌++◌, IfOk, OnOk, IsPermutation, IsSortedByKey};
+ghost use Rattle.std.specs.List.{filter_map};
+ghost use Rattle.std.specs.Map.{keys_of};
+ghost use Rattle.std.specs.Option.{option_to_list};
+ghost use Rattle.uni_base.specs.EdgeOrder.{edge_cmp, key_cmp};
+ghost use Rattle.uni_table.specs.GraphOrder.{edge_told, key_told, short_key, placed_at};
+ghost use Rattle.uni_table.specs.GraphRows.{IsRows};
+
+use super::changes::push;
+use super::rows::Rows;
+use std::alloc::{AllocError, Global};
+use std::cmp::Ordering;
+use uni_base::{EdgeRef, EntityId, Key};
+
+/// A key in few bytes: an id, or a word by the number of a source that has it.
+#[derive(Clone, Copy, Debug)]
+pub(crate) enum ShortKey {
+    Id(EntityId),
+    Word(u32),
+}
+
+/// The place of an edge, with what the edge is ordered by.
+#[derive(Clone, Copy, Debug)]
+pub(crate) struct PlacedEdge {
+    pub type_no: u16,
+    pub key: ShortKey,
+    pub target: EntityId,
+    pub place: u32,
+}
+
+// The key of a source in few bytes.
+fn short_key(key: &Key, source: u32) -> ShortKey
+    ensures { result ≡ short_key source key.now }
+{
+    match key {
+        Key::Id(id) => ShortKey::Id(*id),
+        Key::Word(_) => ShortKey::Word(source),
+    }
+}
+
+impl Rows {
+    // The key of an edge.
+    fn key_of(&self, edge: &PlacedEdge) -> Key
+        ensures { result ≡ key_told (keys_of self.now.sources.entries) edge.now }
+    {
+        match edge.key {
+            ShortKey::Id(id) => Key::Id(id),
+            ShortKey::Word(number) => match self.sources.get_index(number as usize) {
+                Some((source, _)) => source.key,
+                None => Key::Id(edge.target),
+            },
+        }
+    }
+
+    /// The edge itself.
+    pub fn edge_of(&self, edge: &PlacedEdge) -> EdgeRef
+        ensures { result ≡ edge_told self.now edge.now }
+    {
+        EdgeRef {
+            type_no: edge.type_no,
+            key: self.key_of(edge),
+            target: edge.target,
+        }
+    }
+
+    // The order of the keys of two edges.
+    fn compare_keys(&self, one: &PlacedEdge, other: &PlacedEdge) -> Ordering
+        ensures { result ≡ key_cmp (key_told (keys_of self.now.sources.entries) one.now) (key_told (keys_of self.now.sources.entries) other.now) }
+    {
+        match one.key {
+            ShortKey::Id(id) => match other.key {
+                ShortKey::Id(of) => id.get().cmp(&of.get()),
+                ShortKey::Word(_) => self.key_of(one).cmp(&self.key_of(other)),
+            },
+            ShortKey::Word(_) => self.key_of(one).cmp(&self.key_of(other)),
+        }
+    }
+
+    // The order of two edges.
+    fn compare(&self, one: &PlacedEdge, other: &PlacedEdge) -> Ordering
+        ensures { result ≡ edge_cmp (edge_told self.now one.now) (edge_told self.now other.now) }
+    {
+        match one.type_no.cmp(&other.type_no) {
+            Ordering::Equal => match self.compare_keys(one, other) {
+                Ordering::Equal => one.target.cmp(&other.target),
+                unequal => unequal,
+            },
+            unequal => unequal,
+        }
+    }
+
+    // Adds the edge at a place to a list, if there is one.
+    fn add_placed_edge(&self, place: u32, edges: &mut Vec<PlacedEdge>) -> Result<(), AllocError>
+        requires { IsRows self.now }
+        ensures { OnOk result (edges.new.items ≡ edges.old.items ++ option_to_list (placed_at self.now place)) }
+    {
+        let Some((number, _)) = self.edges.get_index(place as usize) else {
+            return Ok(());
+        };
+        let named = self.edge_ref(*number);
+        let key = short_key(&named.key, number.source);
+        let edge = PlacedEdge {
+            type_no: named.type_no,
+            key,
+            target: named.target,
+            place,
+        };
+        push(edges, edge)
+    }
+
+    /// The edges at places, with what they are ordered by.
+    pub fn placed_edges(&self, alloc: Global, places: &[u32]) -> Result<Vec<PlacedEdge>, AllocError>
+        requires { IsRows self.now }
+        ensures { IfOk result (λ edges. edges.items ≡ filter_map (placed_at self.now) places.now) }
+    {
+        let mut edges = Vec::with_capacity(alloc, places.len())?;
+        for place in places {
+            let place = *place;
+            self.add_placed_edge(place, &mut edges)?;
+        }
+        Ok(edges)
+    }
+
+    /// The same edges in their order.
+    pub fn in_order(&self, edges: Vec<PlacedEdge>) -> Vec<PlacedEdge>
+        ensures permutation { IsPermutation edges.items result.items }
+        ensures sorted { IsSortedByKey (edge_told self.now) edge_cmp result.items }
+    {
+        let mut edges = edges;
+        edges.sort_unstable_by(|one, other| self.compare(one, other));
+        edges
+    }
+}
