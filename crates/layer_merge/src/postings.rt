@@ -3,7 +3,6 @@ ghost use Rattle.std.specs.FinMap as finite;
 ghost use Rattle.layer_base.specs.Layers.{stack_table};
 ghost use Rattle.layer_stack.specs.Postings.{putting_all};
 
-use layer_base::rows_left;
 use layer_stack::{Layer, Stack};
 use std::alloc::{AllocError, Global};
 
@@ -15,10 +14,5 @@ pub fn merge_front(alloc: Global, stack: &Stack, count: usize) -> Result<Layer, 
     ensures deletes { IfOk result (λ layer. layer.deletes ≡ finite.empty) }
     ensures same { IfOk result (λ layer. stack_table (layer ∷ drop count stack.now.0) ≡ stack_table stack.now.0) }
 {
-    let mut log = Vec::new(alloc);
-    for i in 0..count {
-        stack.layer(i).log_changes(&mut log)?;
-    }
-    let rows = rows_left(alloc, log)?;
-    Layer::of_postings(alloc, &rows)
+    stack.combined(alloc, count)
 }

@@ -11,3 +11,4 @@ pub mod Terms
 pub mod Under
 pub mod Told
 pub mod Settled
+pub mod Combined

@@ -88,7 +88,7 @@ module _ {V : Type 0} (t : TermKey) where
         | false ↦ λ u. sorted_keyed es (second _ _ sorted)
       ] refl
 
-posting_at-keyed : (rows : List (Place × Audience)) → map posting_at (map keyed rows) ≡ map posting_of rows
+pub posting_at-keyed : (rows : List (Place × Audience)) → map posting_at (map keyed rows) ≡ map posting_of rows
 posting_at-keyed [] = refl
 posting_at-keyed (r ∷ rows) = ap (λ ps. posting_of r ∷ ps) (posting_at-keyed rows)
 

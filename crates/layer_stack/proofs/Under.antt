@@ -1,5 +1,5 @@
 -- The rows of one term among rows that are laid out by terms.
-use Rattle.std.proofs.Common.{◌≡◌, Bool, true, false, cond, List, [], ◌∷◌, ◌++◌, map, filter, length, Option, None, Some, refl, sym, ◌∙◌, ap, subst, All}
+use Rattle.std.proofs.Common.{◌≡◌, Bool, true, false, cond, List, [], ◌∷◌, ◌++◌, map, filter, length, None, Some, refl, sym, ◌∙◌, ap, subst, All}
 use Rattle.std.specs.Cmp.{Equal-is}
 use Rattle.std.specs.Prelude.{T}
 use Rattle.std.specs.FinMap as finite
@@ -19,14 +19,9 @@ use Rattle.layer_stack.specs.declared.place.Place.{Place}
 use Rattle.layer_stack.specs.declared.place.TermKey.{TermKey}
 use Rattle.layer_stack.specs.Places.{term_cmp, place_cmp}
 use Rattle.layer_stack.specs.Postings.{is_under, posting_of, key_of, place_of}
-use Rattle.layer_stack.specs.Spans.{spanned, tagged, span_of, put_rows, delete_rows, AreLaid}
+use Rattle.layer_stack.specs.Spans.{spanned, tagged, span_of, told, put_rows, delete_rows, AreLaid}
 use Rattle.layer_stack.proofs.Order.{term_total, term_apart}
 use Rattle.layer_base.proofs.Sorted.{first, second, then_lt, find_below}
-
--- what a look-up of a span tells of a list
-abbrev pub told : {X : Type 0} → Option Span → List X → List X
-told None xs = []
-told (Some s) xs = spanned s xs
 
 module _ {X V : Type 0} (tag : TermKey → X → Place × V) (keeps : (t : TermKey) (x : X) → (tag t x).0.term ≡ t) where
   pub same_term : (t s : TermKey) (xs : List X) (b : Bool) → eq_by_cmp term_cmp t s ≡ b → filter (is_under t) (map (tag s) xs) ≡ cond b (map (tag s) xs) []

@@ -6,3 +6,4 @@ pub mod Spans
 pub mod Stacks
 pub mod Words
 pub mod Sources
+pub mod Combined

@@ -1,6 +1,6 @@
 -- Tables of postings, and what changes them. A table has at most one posting at each place, and
 -- is in the order of places.
-use Rattle.std.specs.Prelude.{ℕ, ◌+◌, Bool, List, map, filter}
+use Rattle.std.specs.Prelude.{ℕ, ◌+◌, Bool, List, [], ◌∷◌, map, filter}
 use Rattle.std.specs.Ordering.{eq_by_cmp}
 use Rattle.std.specs.FinMap as finite
 use Rattle.uni_base.specs.declared.edge.Audience.{Audience}
@@ -40,6 +40,11 @@ deleting changes place = record { deletes = finite.insert changes.deletes place 
 -- with one more posting put
 abbrev pub putting : PostingChanges → Place → Audience → PostingChanges
 putting changes place audience = record { deletes = changes.deletes; puts = finite.insert changes.puts place audience }
+
+-- with postings put under a term, one after another
+abbrev pub putting_list : TermKey → List Posting → PostingChanges → PostingChanges
+putting_list term [] changes = changes
+putting_list term (p ∷ ps) changes = putting_list term ps (putting changes (place_of term p.key) p.audience)
 
 -- whether a row of a table is under a term
 abbrev pub is_under : {V : Type 0} → TermKey → Place × V → Bool

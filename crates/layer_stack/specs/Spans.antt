@@ -1,5 +1,5 @@
 -- Where the rows of each term stand among rows in the order of places.
-use Rattle.std.specs.Prelude.{◌≡◌, ◌<◌, ◌≤◌, ◌^◌, ℕ, List, length, map, All, Option, None, Some, T, Bool, true, false, cond, ◌==◌}
+use Rattle.std.specs.Prelude.{◌≡◌, ◌<◌, ◌≤◌, ◌^◌, ℕ, List, [], length, map, All, Option, None, Some, T, Bool, true, false, cond, ◌==◌}
 use Rattle.std.specs.List.{flat_map}
 use Rattle.std.specs.Ordering.{is_lt, nat_cmp, match_ordering}
 use Rattle.std.specs.Cmp.Lexicographic.{slice_cmp}
@@ -32,6 +32,11 @@ pub record IsSpans (rows : ℕ) (spans : List (TermKey × Span)) : Type 0 where
 -- the span of a term, if it has one
 abbrev pub span_of : TermKey → List (TermKey × Span) → Option Span
 span_of = find term_cmp
+
+-- what a span tells of a list, if there is one
+abbrev pub told : {X : Type 0} → Option Span → List X → List X
+told None xs = []
+told (Some s) xs = spanned s xs
 
 -- the rows of postings and of deleted keys
 abbrev pub put_rows : List (TermKey × Span) → List Posting → List (Place × Audience)

@@ -1,4 +1,5 @@
-ghost use Rattle.std.specs.Prelude.{◌≡◌, ◌≤◌, IfOk, OnOk, length, is_some};
+ghost use Rattle.std.specs.Prelude.{◌≡◌, ◌≤◌, ◌||◌, IfOk, OnOk, length, is_some};
+ghost use Rattle.layer_stack.specs.Combined.{is_among};
 ghost use Rattle.layer_stack.specs.Words.{IsWordFrom};
 ghost use Rattle.std.specs.Prelude.{T};
 ghost use Rattle.indexmap.specs.IndexMap.{insert_entry};
@@ -76,6 +77,16 @@ impl Directory {
         ensures { result ≡ self.now }
     {
         self.spans.iter()
+    }
+
+    // Adds the terms to a list.
+    pub(crate) fn note_terms(&self, terms: &mut Vec<(TermKey, ())>) -> Result<(), AllocError>
+        ensures { OnOk result ((t : TermKey) → is_among t terms.new.items ≡ (is_among t terms.old.items || is_among t self.now)) }
+    {
+        for (term, _span) in self.iter() {
+            terms.push((*term, ()))?;
+        }
+        Ok(())
     }
 
     // The least word from a given one on, past it where `strict`, at which a term of a type starts.

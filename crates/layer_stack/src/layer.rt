@@ -1,23 +1,22 @@
-ghost use Rattle.std.specs.Prelude.{◌≡◌, ◌≤◌, ◌+◌, ◌^◌, ◌++◌, T, IfOk, OnOk};
-ghost use Rattle.std.specs.FinMap as finite;
-ghost use Rattle.std.specs.FinMap.{is_sorted};
-ghost use Rattle.layer_stack.specs.Places.{place_cmp};
+ghost use Rattle.std.specs.Prelude.{◌≡◌, ◌<◌, ◌≤◌, ◌+◌, ◌^◌, ◌||◌, Some, take, length, IfOk, OnOk};
+ghost use Rattle.std.specs.List.{slice_get};
+ghost use Rattle.posting_lists.specs.Postings.{section};
 ghost use Rattle.uni_base.specs.Cursors.{IsRanked};
-ghost use Rattle.layer_base.specs.Changes.{in_turn};
-ghost use Rattle.layer_base.specs.Layers.{from_log};
+ghost use Rattle.layer_base.specs.Layers.{stack_table};
+ghost use Rattle.layer_stack.specs.Combined.{AreChanged, is_among};
 ghost use Rattle.layer_stack.specs.Postings.{postings_of, deletes_of, entries_of, putting_all};
 ghost use Rattle.layer_stack.specs.Words.{has_term, IsWordFrom};
 
+use crate::combine::combined;
 use crate::directory::{Directory, part};
-use crate::logged::{log_deletes, log_puts};
 use crate::settle::{settle_keys, settle_postings};
 use crate::words::earlier;
-use crate::{Delta, Place, TermKey};
-use posting_lists::{ListCursor, Posting, PostingColumns};
+use crate::{Delta, Stack, TermKey};
+use posting_lists::{ListCursor, PostingColumns};
 use std::alloc::{AllocError, Global};
 use std::marker::Model;
 use std::sync::ledger::Ledger;
-use uni_base::{Audience, DocKey, Steps, Word};
+use uni_base::{DocKey, Steps, Word};
 
 /// How many deletes, and how many puts, a layer has at most.
 const MOST_ROWS: usize = 1 << 61;
@@ -73,30 +72,12 @@ impl Layer {
         })
     }
 
-    /// The layer that puts the postings of a table, in the order of places, and deletes nothing.
-    /// More than 2^61 of them find no memory.
-    pub fn of_postings(alloc: Global, rows: &[(Place, Audience)]) -> Result<Layer, AllocError>
-        requires { T (is_sorted place_cmp rows.now) }
-        ensures { IfOk result (λ layer. layer ≡ putting_all (finite.from_sorted rows.now)) }
-    {
-        Layer::build(alloc, delta_of(alloc, rows)?)
-    }
-
     /// The number of its deletes and puts.
     pub fn entries(&self) -> u64
         ensures entries { result ≡ entries_of self.now }
         ensures few { result ≤ 2 ^ 62 }
     {
         self.postings.len() as u64 + self.deleted.len() as u64
-    }
-
-    /// Adds its changes to a log of changes: what it deletes, and then what it puts, each in the
-    /// order of places.
-    pub fn log_changes(&self, log: &mut Vec<(Place, Option<Audience>)>) -> Result<(), AllocError>
-        ensures { OnOk result (log.new.items ≡ log.old.items ++ in_turn self.now) }
-    {
-        log_deletes(log, &self.deletes, &self.deleted)?;
-        log_puts(log, &self.puts, &self.postings)
     }
 
     /// The least word, from a given one on and past it where `strict`, at which the layer has a
@@ -138,19 +119,29 @@ impl Layer {
             None => &[],
         }
     }
-}
 
-// The changes that put the postings of a table.
-fn delta_of(alloc: Global, rows: &[(Place, Audience)]) -> Result<Delta, AllocError>
-    ensures { IfOk result (λ delta. delta ≡ putting_all (from_log rows.now)) }
-{
-    let mut delta = Delta::new(alloc);
-    for (place, audience) in rows {
-        let posting = Posting {
-            key: place.key,
-            audience: *audience,
-        };
-        delta.put(place.term, posting)?;
+    // Adds the terms at which it deletes or puts to a list.
+    pub(crate) fn note_terms(&self, terms: &mut Vec<(TermKey, ())>) -> Result<(), AllocError>
+        ensures { OnOk result ((t : TermKey) → is_among t terms.new.items ≡ (is_among t terms.old.items || has_term t self.now)) }
+    {
+        self.deletes.note_terms(terms)?;
+        self.puts.note_terms(terms)
     }
-    Ok(delta)
+
+    // Puts what the first layers of a stack stand for, of which this is the oldest one. The changed
+    // terms are those at which the newer ones of them delete or put.
+    pub(crate) fn combined(
+        &self,
+        alloc: Global,
+        stack: &Stack,
+        count: usize,
+        changed: &[(TermKey, ())],
+    ) -> Result<Delta, AllocError>
+        requires oldest { slice_get stack.now.0 0 ≡ Some self.now }
+        requires count { (0 < count) × (count ≤ length stack.now.0) }
+        requires changed { AreChanged (section 1 count stack.now.0) changed.now }
+        ensures { IfOk result (λ delta. delta ≡ putting_all (stack_table (take count stack.now.0))) }
+    {
+        combined(alloc, stack, count, changed, &self.puts, &self.postings)
+    }
 }

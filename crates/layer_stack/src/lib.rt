@@ -3,11 +3,11 @@
 #![tactic(auto)]
 
 mod arrange;
+mod combine;
 mod cursor;
 mod delta;
 mod directory;
 mod layer;
-mod logged;
 mod merge;
 mod merging;
 mod part;

@@ -1,7 +1,3 @@
-ghost use Rattle.std.specs.Prelude.{◌≡◌};
-ghost use Rattle.layer_stack.specs.Postings.{place_of};
-ghost use Rattle.layer_stack.specs.Places.{term_of};
-
 use std::hash::{Hash, Hasher};
 use uni_base::{DocKey, Key};
 
@@ -34,17 +30,4 @@ impl Hash for TermKey {
 pub struct Place {
     pub term: TermKey,
     pub key: DocKey,
-}
-
-impl Place {
-    // The place of a key under the term of a type and a start.
-    pub(crate) fn at(type_no: u16, start: Key, key: DocKey) -> Place
-        ensures { result ≡ place_of (term_of type_no start) key }
-    {
-        let term = TermKey {
-            type_no,
-            key: start,
-        };
-        Place { term, key }
-    }
 }

@@ -1,12 +1,13 @@
-ghost use Rattle.std.specs.Prelude.{◌≡◌, ◌+◌, ◌≤◌, ◌<◌, ◌++◌, ◌∷◌, [], length, Some, IfOk};
+ghost use Rattle.std.specs.Prelude.{◌≡◌, ◌+◌, ◌≤◌, ◌<◌, ◌++◌, ◌∷◌, [], length, take, Some, IfOk};
 ghost use Rattle.std.specs.List.{slice_get};
 ghost use Rattle.std.specs.FinMap as finite;
 ghost use Rattle.layer_base.specs.Layers.{stack_table};
-ghost use Rattle.layer_stack.specs.Postings.{postings_of, place_of};
+ghost use Rattle.layer_stack.specs.Postings.{postings_of, place_of, putting_all};
 
+use crate::combine::changed_terms;
 use crate::part::Part;
 use crate::parts::Parts;
-use crate::{Layer, StackCursor, TermKey};
+use crate::{Delta, Layer, StackCursor, TermKey};
 use layer_base::SharedLayers;
 use std::alloc::{AllocError, Global};
 use std::marker::Model;
@@ -79,8 +80,21 @@ impl Stack {
     pub fn cursor(&self, alloc: Global, term: &TermKey) -> Result<StackCursor<'_>, AllocError>
         ensures { IfOk result (λ cursor. cursor ≡ postings_of term.now (stack_table self.now.0)) }
     {
+        self.front_cursor(alloc, self.layers(), term)
+    }
+
+    // The postings of a term in the first `count` layers, in rank order.
+    pub(crate) fn front_cursor(
+        &self,
+        alloc: Global,
+        count: usize,
+        term: &TermKey,
+    ) -> Result<StackCursor<'_>, AllocError>
+        requires { count ≤ length self.now.0 }
+        ensures { IfOk result (λ cursor. cursor ≡ postings_of term.now (stack_table (take count self.now.0))) }
+    {
         let mut parts = Parts::new(alloc);
-        for i in 0..self.layers() {
+        for i in 0..count {
             let layer = self.layer(i);
             let part = Part::new(layer.deleted(term), layer.postings(term));
             if !part.is_empty() {
@@ -102,5 +116,18 @@ impl Stack {
             answer = Part::new(layer.deleted(term), puts).over(answer, &key);
         }
         answer
+    }
+
+    /// The first `count` layers, the oldest ones, as one layer that deletes nothing.
+    pub fn combined(&self, alloc: Global, count: usize) -> Result<Layer, AllocError>
+        requires { count ≤ length self.now.0 }
+        ensures { IfOk result (λ layer. layer ≡ putting_all (stack_table (take count self.now.0))) }
+    {
+        if count == 0 {
+            return Layer::build(alloc, Delta::new(alloc));
+        }
+        let changed = changed_terms(alloc, self, count)?;
+        let delta = self.layer(0).combined(alloc, self, count, &changed)?;
+        Layer::build(alloc, delta)
     }
 }

@@ -1,8 +1,8 @@
 use Rattle.std.proofs.Common.{rules, arith, ◌≡◌, ◌<◌, ◌≤◌, length, Some, None, ap, ◌∙◌, sym, subst}
 use Rattle.uni_base.specs.Cursors.{IsRanked}
 use Rattle.layer_stack.specs.Postings.{deletes_of}
-use Rattle.layer_stack.specs.Spans.{span_of}
-use Rattle.layer_stack.proofs.Under.{told, found_holds, deletes_told, deletes_ranked}
+use Rattle.layer_stack.specs.Spans.{span_of, told}
+use Rattle.layer_stack.proofs.Under.{found_holds, deletes_told, deletes_ranked}
 use Rattle.layer_stack.proofs.layer.Layer.deleted.Goals as goal
 
 pub part-requires : goal.part-requires

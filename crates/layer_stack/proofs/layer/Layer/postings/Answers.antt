@@ -2,8 +2,8 @@ use Rattle.std.proofs.Common.{rules, arith, ◌≡◌, ◌<◌, ◌≤◌, lengt
 use Rattle.uni_base.specs.Cursors.{IsRanked}
 use Rattle.posting_lists.specs.Postings.{keys_of}
 use Rattle.layer_stack.specs.Postings.{postings_of}
-use Rattle.layer_stack.specs.Spans.{span_of}
-use Rattle.layer_stack.proofs.Under.{told, found_holds, postings_told, postings_ranked}
+use Rattle.layer_stack.specs.Spans.{span_of, told}
+use Rattle.layer_stack.proofs.Under.{found_holds, postings_told, postings_ranked}
 use Rattle.layer_stack.proofs.layer.Layer.postings.Goals as goal
 
 pub section-requires-clause-within : goal.section-requires-clause-within

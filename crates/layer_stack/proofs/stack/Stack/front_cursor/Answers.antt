@@ -1,7 +1,6 @@
 use Rattle.std.proofs.Common.{rules, arith, ◌≡◌, ◌++◌, ◌∷◌, [], None, cond, true, ◌==◌, ◌&&◌, List, take, length, map, ap, ◌∙◌, sym, subst}
 use Rattle.std.specs.FinMap as finite
 use Rattle.std.specs.FinMap.Entries.{find}
-use Rattle.std.proofs.lemmas.List.{take_all}
 use Rattle.uni_base.specs.RankOrder.{doc_cmp}
 use Rattle.uni_base.specs.KeySets.{has_key}
 use Rattle.layer_base.specs.Lookups.{either}
@@ -12,8 +11,8 @@ use Rattle.std.specs.Result.{IfOk}
 use Rattle.posting_lists.specs.declared.posting.Posting.{Posting}
 use Rattle.layer_stack.specs.Stacks.{PartValue, entry_of, part_table, remaining_of}
 use Rattle.layer_stack.proofs.Terms.{get-layer, stack_more, parts_stand, part_pushed, part_skipped}
-use Rattle.layer_stack.proofs.stack.Stack.cursor.Goals as goal
-use Rattle.layer_stack.proofs.stack.Stack.cursor.Goals.{then-not-is_empty+in_ok-push, else-not-is_empty}
+use Rattle.layer_stack.proofs.stack.Stack.front_cursor.Goals as goal
+use Rattle.layer_stack.proofs.stack.Stack.front_cursor.Goals.{then-not-is_empty+in_ok-push, else-not-is_empty}
 
 pub loop-i-init : goal.loop-i-init
 loop-i-init c k =
@@ -44,6 +43,7 @@ loop-i-preserved c k =
 
 pub returns : goal.returns
 returns c =
-    let all : take c.loop-i.i c.args.self.now.0 ≡ c.args.self.now.0 = take_all c.loop-i.i c.args.self.now.0 (omega (arith, c.layers-i-end.ensures, c.loop-i-test.false)) in
-    let stand : remaining_of c.loop-i.parts ≡ postings_of c.args.term.now (stack_table c.args.self.now.0) = parts_stand c.args.term.now c.loop-i.parts (stack_table c.args.self.now.0) (λ k. c.loop-i.invariant k ∙ ap (λ ls. finite.get (stack_table ls) (place_of c.args.term.now k)) all) in
+    let layers = c.args.self.now.0 in let t = c.args.term.now in
+    let all : c.loop-i.i ≡ c.args.count = omega (arith, c.loop-i-test.false, c.loop-i.auto.i-end) in
+    let stand : remaining_of c.loop-i.parts ≡ postings_of t (stack_table (take c.args.count layers)) = parts_stand t c.loop-i.parts (stack_table (take c.args.count layers)) (λ k. c.loop-i.invariant k ∙ ap (λ n. finite.get (stack_table (take n layers)) (place_of t k)) all) in
     subst (λ (ps : List Posting). IfOk c.over.result (λ cursor. cursor ≡ ps)) stand c.over.ensures

@@ -1,9 +1,0 @@
-use Rattle.std.proofs.Common.{◌≡◌, take}
-use Rattle.std.specs.FinMap as finite
-use Rattle.layer_base.specs.Layers.{stack_table}
-use Rattle.layer_base.specs.Changes.{after}
-use Rattle.layer_stack.specs.Places.{place_cmp}
-use Rattle.layer_merge.proofs.postings.merge_front.Given as goal
-
-abbrev pub invariant-loop-i : goal.invariant-loop-i
-invariant-loop-i l = after {R = place_cmp} finite.empty l.log.items ≡ stack_table (take l.i l.stack.0)

@@ -1,0 +1,353 @@
+-- Postings put term by term, by look-ups.
+use Rattle.std.proofs.Common.{◌≡◌, ℕ, zero, suc, ◌+◌, ◌-◌, ◌<◌, ◌≤◌, Bool, true, false, cond, not, ◌&&◌, ◌||◌, List, [], ◌∷◌, ◌++◌, map, filter, take, length, get_or, reverse, slice_get, Option, None, Some, refl, sym, ◌∙◌, ap, subst, is_some, arith}
+use Rattle.std.specs.Cmp.{Equal-is}
+use Rattle.std.specs.Prelude.{T}
+use Rattle.std.specs.List.{list_any}
+use Rattle.std.specs.Option.{unwrap_or}
+use Rattle.std.specs.FinMap as finite
+use Rattle.std.specs.FinMap.Entries.{find, is_sorted, is_sorted-where_key, find-where_key, same_entries}
+use Rattle.std.specs.declared.cmp.Ordering.{Ordering}
+use Rattle.std.specs.Ordering.{eq_by_cmp}
+use Rattle.std.proofs.lemmas.Cmp.{eq_by_cmp_equiv}
+use Rattle.std.proofs.lemmas.List.{reverse-append}
+use Rattle.std.proofs.lemmas.List.Folds.{list_any-append}
+use Rattle.uni_base.specs.declared.edge.Audience.{Audience}
+use Rattle.uni_base.specs.declared.entity.DocKey.{DocKey}
+use Rattle.uni_base.specs.KeySets.{has_key}
+use Rattle.uni_base.specs.RankOrder.{doc_cmp}
+use Rattle.uni_base.proofs.RankedLemmas.{doc_total, exact_key}
+use Rattle.posting_lists.specs.declared.posting.Posting.{Posting}
+use Rattle.posting_lists.specs.Postings.{section}
+use Rattle.layer_base.specs.Lookups.{either}
+use Rattle.layer_base.specs.Layers.{from_log, put_all, layer_over, stack_over, stack_table}
+use Rattle.layer_base.proofs.Changes.{find-append}
+use Rattle.layer_base.proofs.Frozen.{take-add}
+use Rattle.layer_base.proofs.Rising.{log_sorted}
+use Rattle.layer_base.proofs.Sorted.{find_at}
+use Rattle.layer_base.proofs.Tables.{get-put_all, get-layer_over}
+use Rattle.layer_stack.specs.declared.directory.Span.{Span}
+use Rattle.layer_stack.specs.declared.place.Place.{Place}
+use Rattle.layer_stack.specs.declared.place.TermKey.{TermKey}
+use Rattle.layer_stack.specs.Combined.{is_among, is_changed, AreChanged, putting_terms, StandsAlone}
+use Rattle.layer_stack.specs.Places.{term_cmp, place_cmp}
+use Rattle.layer_stack.specs.Postings.{PostingTable, PostingChanges, no_changes, putting_all, is_under, place_of, posting_of, key_of, postings_of, putting, putting_list}
+use Rattle.layer_stack.specs.Spans.{span_of, told}
+use Rattle.layer_stack.specs.Stacks.{entry_of, posting_at}
+use Rattle.layer_stack.specs.Words.{has_term}
+use Rattle.layer_stack.proofs.LoggedRows.{section_more}
+use Rattle.layer_stack.proofs.Order.{term_total, term_apart, place_total, place_apart}
+use Rattle.layer_stack.proofs.Terms.{keyed, get-under, get-layer, sorted_keyed, posting_at-keyed}
+use Rattle.layer_stack.proofs.Under.{term_self}
+
+-- ---- the postings of a term, put one after another
+
+put_all-append : {K X : Type 0} {R : K → K → Ordering} (xs ys : List (K × X)) (m : finite.FinMap R X) → put_all (xs ++ ys) m ≡ put_all xs (put_all ys m)
+put_all-append [] ys m = refl
+put_all-append (x ∷ xs) ys m = ap (λ n. finite.insert n x.0 x.1) (put_all-append xs ys m)
+
+abbrev put_row : TermKey → Posting → Place × Audience
+put_row t p = (place_of t p.key, p.audience)
+
+list_deletes : (t : TermKey) (ps : List Posting) (c : PostingChanges) → (putting_list t ps c).deletes ≡ c.deletes
+list_deletes t [] c = refl
+list_deletes t (p ∷ ps) c = list_deletes t ps (putting c (place_of t p.key) p.audience)
+
+list_puts : (t : TermKey) (ps : List Posting) (c : PostingChanges) → (putting_list t ps c).puts ≡ put_all (reverse (map (put_row t) ps)) c.puts
+list_puts t [] c = refl
+list_puts t (p ∷ ps) c =
+    list_puts t ps (putting c (place_of t p.key) p.audience)
+    ∙ sym (ap (λ rows. put_all rows c.puts) (reverse-append (put_row t p ∷ []) (map (put_row t) ps)) ∙ put_all-append (reverse (map (put_row t) ps)) (put_row t p ∷ []) c.puts)
+
+-- a list and then another one
+pub list_more : (t : TermKey) (ps : List Posting) (p : Posting) (c : PostingChanges) → putting_list t (ps ++ p ∷ []) c ≡ putting (putting_list t ps c) (place_of t p.key) p.audience
+list_more t [] p c = refl
+list_more t (q ∷ ps) p c = list_more t ps p (putting c (place_of t q.key) q.audience)
+
+pub terms_more : (table : PostingTable) (es : List (TermKey × Unit {0})) (e : TermKey × Unit {0}) (c : PostingChanges)
+    → putting_terms table (es ++ e ∷ []) c ≡ putting_list e.0 (postings_of e.0 table) (putting_terms table es c)
+terms_more table [] e c = refl
+terms_more table (d ∷ es) e c = terms_more table es e (putting_list d.0 (postings_of d.0 table) c)
+
+tags_back : (t : TermKey) (es : List (Place × Audience)) → map (put_row t) (map posting_of (filter (is_under t) es)) ≡ filter (is_under t) es
+tags_back t [] = refl
+tags_back t (e ∷ es) =
+    elim (is_under t e) as (λ b. is_under t e ≡ b → map (put_row t) (map posting_of (cond b (e ∷ filter (is_under t) es) (filter (is_under t) es))) ≡ cond b (e ∷ filter (is_under t) es) (filter (is_under t) es)) [
+      | true ↦ λ u. let is : t ≡ e.0.term = term_apart t e.0.term ((Equal-is (term_cmp t e.0.term)).0 u) in λ i. (record { term = is i; key = e.0.key }, e.1) ∷ tags_back t es i
+      | false ↦ λ u. tags_back t es
+    ] refl
+
+find_turned : (q : Place) (rows : List (Place × Audience)) → T (is_sorted place_cmp rows) → find place_cmp q (reverse rows) ≡ find place_cmp q rows
+find_turned q rows sorted =
+    sym (finite.get-from_entries place_total (reverse rows) q) ∙ finite.get-entries (from_log {R = place_cmp} rows) q ∙ ap (find place_cmp q) (sym (log_sorted place_cmp place_total place_apart rows sorted))
+
+find_term : (t : TermKey) (table : PostingTable) (q : Place) → find place_cmp q (reverse (map (put_row t) (postings_of t table))) ≡ cond (eq_by_cmp term_cmp t q.term) (finite.get table q) None
+find_term t table q =
+    ap (λ rows. find place_cmp q (reverse rows)) (tags_back t (finite.entries table))
+    ∙ find_turned q (filter (is_under t) (finite.entries table)) (is_sorted-where_key place_cmp (λ p. eq_by_cmp term_cmp t p.term) (finite.entries table) (finite.entries_sorted table))
+    ∙ find-where_key place_cmp (λ p. eq_by_cmp term_cmp t p.term) q (λ x e. ap (λ (p : Place). eq_by_cmp term_cmp t p.term) (sym (place_apart q x e))) (finite.entries table)
+    ∙ ap (λ o. cond (eq_by_cmp term_cmp t q.term) o None) (sym (finite.get-entries table q))
+
+-- ---- what a table has under some terms
+
+-- changes that put what a table has under the terms that pass a test, and delete nothing
+pub record Has (table : PostingTable) (done : TermKey → Bool) (c : PostingChanges) : Type 0 where
+  pub deletes : c.deletes ≡ finite.empty
+  pub puts : (q : Place) → finite.get c.puts q ≡ cond (done q.term) (finite.get table q) None
+
+has_alike : (table : PostingTable) (done other : TermKey → Bool) (c : PostingChanges) → ((s : TermKey) → done s ≡ other s) → Has table done c → Has table other c
+has_alike table done other c alike has = record {
+  deletes = has.deletes;
+  puts = λ q. has.puts q ∙ ap (λ b. cond b (finite.get table q) None) (alike q.term);
+}
+
+has_list : (table : PostingTable) (done : TermKey → Bool) (t : TermKey) (c : PostingChanges) → Has table done c → Has table (λ s. eq_by_cmp term_cmp s t || done s) (putting_list t (postings_of t table) c)
+has_list table done t c has = record {
+  deletes = list_deletes t (postings_of t table) c ∙ has.deletes;
+  puts = λ q. ap (λ m. finite.get m q) (list_puts t (postings_of t table) c)
+      ∙ get-put_all place_total (reverse (map (put_row t) (postings_of t table))) c.puts q ∙ (λ i. either (find_term t table q i) (has.puts q i))
+      ∙ by (eq_by_cmp term_cmp t q.term) (done q.term) (finite.get table q) ∙ ap (λ b. cond (b || done q.term) (finite.get table q) None) ((eq_by_cmp_equiv term_total).symm t q.term);
+}
+  where
+    by : (a b : Bool) (o : Option Audience) → either (cond a o None) (cond b o None) ≡ cond (a || b) o None
+    by true true None = refl
+    by true true (Some x) = refl
+    by true false None = refl
+    by true false (Some x) = refl
+    by false b o = refl
+
+has_terms : (table : PostingTable) (es : List (TermKey × Unit {0})) (done : TermKey → Bool) (c : PostingChanges) → Has table done c → Has table (λ s. is_among s es || done s) (putting_terms table es c)
+has_terms table [] done c has = has_alike table done (λ s. is_among {X = Unit {0}} s [] || done s) c (λ s. refl) has
+has_terms table (e ∷ es) done c has =
+    has_alike table (λ s. is_among s es || (eq_by_cmp term_cmp s e.0 || done s)) (λ s. is_among s (e ∷ es) || done s) (putting_terms table (e ∷ es) c)
+    (λ s. by (eq_by_cmp term_cmp s e.0) (find term_cmp s es) (done s))
+    (has_terms table es (λ s. eq_by_cmp term_cmp s e.0 || done s) (putting_list e.0 (postings_of e.0 table) c) (has_list table done e.0 c has))
+  where
+    by : (a : Bool) (f : Option (Unit {0})) (d : Bool) → (is_some f || (a || d)) ≡ (is_some (cond a (Some e.1) f) || d)
+    by true None d = refl
+    by true (Some u) d = refl
+    by false f d = refl
+
+among-append : {X : Type 0} (s : TermKey) (xs ys : List (TermKey × X)) → is_among s (xs ++ ys) ≡ (is_among s xs || is_among s ys)
+among-append s xs ys = ap is_some (find-append term_cmp s xs ys) ∙ by (find term_cmp s xs) (find term_cmp s ys)
+  where
+    by : {X : Type 0} (a b : Option X) → is_some (either a b) ≡ (is_some a || is_some b)
+    by None b = refl
+    by (Some x) b = refl
+
+-- the terms that are done: the changed ones up to a place, and, of those that the oldest layer puts, the others
+abbrev pub is_done : List (TermKey × Unit {0}) → ℕ → List (TermKey × Span) → TermKey → Bool
+is_done changed at spans s = is_among s (take at changed) || (is_among s spans && not (is_among s changed))
+
+pub done_start : (table : PostingTable) (changed : List (TermKey × Unit {0})) → Has table (is_done changed 0 []) no_changes
+done_start table changed = record { deletes = refl; puts = λ q. finite.get-empty place_cmp q }
+
+pub done_terms : (table : PostingTable) (changed : List (TermKey × Unit {0})) (at to : ℕ) (spans : List (TermKey × Span)) (c : PostingChanges) → at ≤ to → to ≤ length changed → Has table (is_done changed at spans) c
+    → Has table (is_done changed to spans) (putting_terms table (section at to changed) c)
+done_terms table changed at to spans c le fits has =
+    has_alike table (λ s. is_among s (section at to changed) || is_done changed at spans s) (is_done changed to spans) (putting_terms table (section at to changed) c)
+    (λ s. by (is_among s (section at to changed)) (is_among s (take at changed)) (is_among s spans && not (is_among s changed))
+    ∙ ap (λ b. b || (is_among s spans && not (is_among s changed))) (sym (ap (is_among s) parts ∙ among-append s (take at changed) (section at to changed))))
+    (has_terms table (section at to changed) (is_done changed at spans) c has)
+  where
+    whole : at + (to - at) ≡ to
+    whole = omega (arith, le)
+
+    parts : take to changed ≡ take at changed ++ section at to changed
+    parts = ap (λ n. take n changed) (sym whole) ∙ take-add at (to - at) changed (omega (arith, le, fits))
+
+    by : (a b d : Bool) → (a || (b || d)) ≡ ((b || a) || d)
+    by true true d = refl
+    by true false d = refl
+    by false true d = refl
+    by false false d = refl
+
+pub done_span : (table : PostingTable) (changed : List (TermKey × Unit {0})) (to : ℕ) (spans : List (TermKey × Span)) (e : TermKey × Span) (ps : List Posting) (c : PostingChanges) → (is_among e.0 changed ≡ false → ps ≡ postings_of e.0 table)
+    → Has table (is_done changed to spans) c → Has table (is_done changed to (spans ++ e ∷ [])) (cond (is_among e.0 changed) c (putting_list e.0 ps c))
+done_span table changed to spans e ps c alone has = by (is_among e.0 changed) refl
+  where
+    among_more : (s : TermKey) → is_among s (spans ++ e ∷ []) ≡ (is_among s spans || eq_by_cmp term_cmp s e.0)
+    among_more s = among-append s spans (e ∷ []) ∙ ap (λ b. is_among s spans || b) (one (eq_by_cmp term_cmp s e.0))
+      where
+        one : (b : Bool) → is_some (cond b (Some e.1) None) ≡ b
+        one true = refl
+        one false = refl
+
+    same : (s : TermKey) (b : Bool) → is_among e.0 changed ≡ b → eq_by_cmp term_cmp s e.0 ≡ true → is_among s changed ≡ b
+    same s b is eq = let t : s ≡ e.0 = term_apart s e.0 ((Equal-is (term_cmp s e.0)).0 eq) in ap (λ (x : TermKey). is_among x changed) t ∙ is
+
+    skip : (x y f z : Bool) → (f ≡ true → z ≡ true) → (x || (y && not z)) ≡ (x || ((y || f) && not z))
+    skip true y f z h = refl
+    skip false true f z h = refl
+    skip false false true true h = refl
+    skip false false true false h = let no : false ≡ true = h refl in cc
+    skip false false false z h = refl
+
+    copy : (x y f z : Bool) → (f ≡ true → z ≡ false) → (f || (x || (y && not z))) ≡ (x || ((y || f) && not z))
+    copy true y true z h = refl
+    copy true y false z h = refl
+    copy false true true true h = let no : true ≡ false = h refl in cc
+    copy false true true false h = refl
+    copy false true false z h = refl
+    copy false false true true h = let no : true ≡ false = h refl in cc
+    copy false false true false h = refl
+    copy false false false z h = refl
+
+    by : (b : Bool) → is_among e.0 changed ≡ b → Has table (is_done changed to (spans ++ e ∷ [])) (cond b c (putting_list e.0 ps c))
+    by true is =
+        has_alike table (is_done changed to spans) (is_done changed to (spans ++ e ∷ [])) c
+        (λ s. skip (is_among s (take to changed)) (is_among s spans) (eq_by_cmp term_cmp s e.0) (is_among s changed) (same s true is)
+        ∙ ap (λ b. is_among s (take to changed) || (b && not (is_among s changed))) (sym (among_more s))) has
+    by false is =
+        has_alike table (λ s. eq_by_cmp term_cmp s e.0 || is_done changed to spans s) (is_done changed to (spans ++ e ∷ [])) (putting_list e.0 ps c)
+        (λ s. copy (is_among s (take to changed)) (is_among s spans) (eq_by_cmp term_cmp s e.0) (is_among s changed) (same s false is)
+        ∙ ap (λ b. is_among s (take to changed) || (b && not (is_among s changed))) (sym (among_more s)))
+        (subst (λ (qs : List Posting). Has table (λ s. eq_by_cmp term_cmp s e.0 || is_done changed to spans s) (putting_list e.0 qs c)) (sym (alone is)) (has_list table (is_done changed to spans) e.0 c has))
+
+none_of : {X : Type 0} (o : Option X) → is_some o ≡ false → o ≡ None
+none_of None e = refl
+none_of (Some x) e = cc
+
+-- a term without postings has nothing at any key
+none_at : (table : PostingTable) (q : Place) → [] ≡ postings_of q.term table → finite.get table q ≡ None
+none_at table q none = get-under q.term q.key table ∙ ap (λ es. find doc_cmp q.key (map keyed es)) (empty (filter (is_under q.term) (finite.entries table)) none)
+  where
+    empty : (rows : List (Place × Audience)) → [] ≡ map posting_of rows → rows ≡ []
+    empty [] e = refl
+    empty (r ∷ rows) e = cc
+
+-- once all terms are done, the changes put the table
+pub all_done : (table : PostingTable) (changed : List (TermKey × Unit {0})) (to : ℕ) (spans : List (TermKey × Span)) (ps : List Posting) (c : PostingChanges) → take to changed ≡ changed → StandsAlone changed spans ps table
+    → Has table (is_done changed to spans) c → c ≡ putting_all table
+all_done table changed to spans ps c whole alone has = λ i. record { deletes = has.deletes i; puts = puts i }
+  where
+    at : (q : Place) → finite.get c.puts q ≡ finite.get table q
+    at q = has.puts q ∙ ap (λ xs. cond (is_among q.term xs || (is_among q.term spans && not (is_among q.term changed))) (finite.get table q) None) whole
+        ∙ by (is_among q.term changed) (span_of q.term spans) refl refl
+      where
+        by : (b : Bool) (o : Option Span) → is_among q.term changed ≡ b → span_of q.term spans ≡ o → cond (b || (is_some o && not b)) (finite.get table q) None ≡ finite.get table q
+        by true o e f = refl
+        by false (Some s) e f = refl
+        by false None e f = sym (none_at table q (ap (λ o. told o ps) (sym f) ∙ alone q.term e))
+
+    puts : c.puts ≡ table
+    puts = finite.same_map place_total place_apart c.puts table at
+
+-- ---- under terms that newer layers leave alone, the oldest one stands alone
+
+filter_none : {X : Type 0} (p : X → Bool) (xs : List X) → list_any p xs ≡ false → filter p xs ≡ []
+filter_none p [] none = refl
+filter_none p (x ∷ xs) none =
+    elim (p x) as (λ b. (b || list_any p xs) ≡ false → cond b (x ∷ filter p xs) (filter p xs) ≡ []) [
+      | true ↦ λ e. cc
+      | false ↦ λ e. filter_none p xs e
+    ] none
+
+or_false : (a b : Bool) → (a || b) ≡ false → (a ≡ false) × (b ≡ false)
+or_false true b e = cc
+or_false false b e = (refl, e)
+
+get_unchanged : (t : TermKey) (k : DocKey) (layers : List PostingChanges) (table : PostingTable) → is_changed t layers ≡ false → finite.get (stack_over table layers) (place_of t k) ≡ finite.get table (place_of t k)
+get_unchanged t k [] table none = refl
+get_unchanged t k (layer ∷ layers) table none =
+    let two = or_false (has_term t layer) (is_changed t layers) none in
+    let sides = or_false (list_any (is_under t) (finite.entries layer.deletes)) (list_any (is_under t) (finite.entries layer.puts)) two.0 in
+    get_unchanged t k layers (layer_over table layer) two.1 ∙ get-layer t k table layer
+    ∙ (λ i. either (find doc_cmp k (map entry_of (map posting_of (filter_none (is_under t) (finite.entries layer.puts) sides.1 i)))) (cond (has_key (map key_of (filter_none (is_under t) (finite.entries layer.deletes) sides.0 i)) k) None (finite.get table (place_of t k))))
+
+get_oldest : (q : Place) (layer : PostingChanges) → finite.get (layer_over finite.empty layer) q ≡ finite.get layer.puts q
+get_oldest q layer =
+    get-layer_over place_total place_apart finite.empty layer q
+    ∙ (λ i. either (finite.get layer.puts q) (cond (finite.contains_key layer.deletes q) None (finite.get-empty {X = Audience} place_cmp q i))) ∙ by (finite.get layer.puts q) (finite.contains_key layer.deletes q)
+  where
+    by : (o : Option Audience) (b : Bool) → either o (cond b None None) ≡ o
+    by None true = refl
+    by None false = refl
+    by (Some a) b = refl
+
+-- tables that answer alike under a term have the same postings there
+same_postings : (t : TermKey) (m n : PostingTable) → ((k : DocKey) → finite.get m (place_of t k) ≡ finite.get n (place_of t k)) → postings_of t m ≡ postings_of t n
+same_postings t m n alike =
+    sym (posting_at-keyed (filter (is_under t) (finite.entries m)))
+    ∙ ap (map posting_at) (same_entries doc_cmp doc_total exact_key (map keyed (filter (is_under t) (finite.entries m))) (map keyed (filter (is_under t) (finite.entries n)))
+    (sorted_keyed t (finite.entries m) (finite.entries_sorted m)) (sorted_keyed t (finite.entries n) (finite.entries_sorted n)) (λ k. sym (get-under t k m) ∙ alike k ∙ get-under t k n))
+    ∙ posting_at-keyed (filter (is_under t) (finite.entries n))
+
+first_layer : {X : Type 0} (layers : List X) (count : ℕ) (base : X) → slice_get layers 0 ≡ Some base → 0 < count → take count layers ≡ base ∷ section 1 count layers
+first_layer [] count base at some = cc
+first_layer (x ∷ layers) zero base at some = absurd (omega (arith, some))
+first_layer (x ∷ layers) (suc n) base at some =
+    let is : x ≡ base = ap (λ o. unwrap_or o base) at in
+    let less : suc n - 1 ≡ n = omega arith in
+    λ i. is i ∷ take (sym less i) layers
+
+pub oldest_alone : (layers : List PostingChanges) (count : ℕ) (base : PostingChanges) (changed : List (TermKey × Unit {0})) (spans : List (TermKey × Span)) (ps : List Posting) → slice_get layers 0 ≡ Some base → 0 < count
+    → AreChanged (section 1 count layers) changed → ((t : TermKey) → postings_of t base.puts ≡ told (span_of t spans) ps) → StandsAlone changed spans ps (stack_table (take count layers))
+oldest_alone layers count base changed spans ps at some are tells t none =
+    sym (tells t) ∙ same_postings t base.puts (stack_table (take count layers)) (λ k. sym (
+    ap (λ ls. finite.get (stack_table ls) (place_of t k)) (first_layer layers count base at some)
+    ∙ get_unchanged t k (section 1 count layers) (layer_over finite.empty base) (sym (are.exact t) ∙ none) ∙ get_oldest (place_of t k) base))
+
+-- ---- the terms that are changed
+
+abbrev pub bare : {X : Type 0} → TermKey × X → TermKey × Unit {0}
+bare e = (e.0, tt)
+
+pub among-bare : {X : Type 0} (t : TermKey) (es : List (TermKey × X)) → is_among t (map bare es) ≡ is_among t es
+among-bare t [] = refl
+among-bare t (e ∷ es) =
+    elim (eq_by_cmp term_cmp t e.0) as (λ b. is_some (cond b (Some tt) (find term_cmp t (map bare es))) ≡ is_some (cond b (Some e.1) (find term_cmp t es))) [
+      | true ↦ refl
+      | false ↦ among-bare t es
+    ]
+
+pub among_noted : {X : Type 0} (t : TermKey) (old : List (TermKey × Unit {0})) (es : List (TermKey × X)) → is_among t (old ++ map bare es) ≡ (is_among t old || is_among t es)
+among_noted t old es = among-append t old (map bare es) ∙ ap (λ b. is_among t old || b) (among-bare t es)
+
+or_assoc : (a b c : Bool) → ((a || b) || c) ≡ (a || (b || c))
+or_assoc true b c = refl
+or_assoc false b c = refl
+
+pub changed_more : (t : TermKey) (layers : List PostingChanges) (i : ℕ) (layer : PostingChanges) (old new : Bool) → 1 ≤ i → slice_get layers i ≡ Some layer → old ≡ is_changed t (section 1 i layers) → new ≡ (old || has_term t layer)
+    → new ≡ is_changed t (section 1 (i + 1) layers)
+changed_more t layers i layer old new le at so_far adds =
+    adds ∙ ap (λ b. b || has_term t layer) so_far
+    ∙ sym (ap (is_changed t) (section_more 1 i layers layer le at) ∙ list_any-append (has_term t) (section 1 i layers) (layer ∷ []) ∙ ap (λ b. is_changed t (section 1 i layers) || b) (or_nothing (has_term t layer)))
+  where
+    or_nothing : (b : Bool) → (b || false) ≡ b
+    or_nothing true = refl
+    or_nothing false = refl
+
+-- the last words on terms have the same terms
+pub among_last : (t : TermKey) (log : List (TermKey × Unit {0})) → is_among t (finite.entries (from_log {R = term_cmp} log)) ≡ is_among t log
+among_last t log =
+    ap is_some (sym (finite.get-entries (from_log {R = term_cmp} log) t) ∙ finite.get-from_entries term_total (reverse log) t) ∙ turned log
+  where
+    turned : (es : List (TermKey × Unit {0})) → is_among t (reverse es) ≡ is_among t es
+    turned [] = refl
+    turned (e ∷ es) =
+        ap (is_among t) (reverse-append (e ∷ []) es) ∙ among-append t (reverse es) (e ∷ []) ∙ ap (λ b. b || is_among t (e ∷ [])) (turned es)
+        ∙ by (eq_by_cmp term_cmp t e.0) (find term_cmp t es)
+      where
+        by : (b : Bool) (f : Option (Unit {0})) → (is_some f || is_some (cond b (Some e.1) None)) ≡ is_some (cond b (Some e.1) f)
+        by true None = refl
+        by true (Some u) = refl
+        by false None = refl
+        by false (Some u) = refl
+
+pub note_more : {X : Type 0} (t : TermKey) (terms : List (TermKey × Unit {0})) (yielded : List (TermKey × X)) (e : TermKey × X) (older : Bool) → is_among t terms ≡ (older || is_among t yielded)
+    → is_among t (terms ++ bare e ∷ []) ≡ (older || is_among t (yielded ++ e ∷ []))
+note_more t terms yielded e older so_far =
+    among_noted t terms (e ∷ []) ∙ ap (λ b. b || is_among t (e ∷ [])) so_far ∙ or_assoc older (is_among t yielded) (is_among t (e ∷ [])) ∙ ap (λ b. older || b) (sym (among-append t yielded (e ∷ [])))
+
+-- what the two directories of a layer note
+pub notes_both : (t : TermKey) (older first new deletes puts : Bool) → first ≡ (older || deletes) → new ≡ (first || puts) → new ≡ (older || (deletes || puts))
+notes_both t older first new deletes puts one two = two ∙ ap (λ b. b || puts) one ∙ or_assoc older deletes puts
+
+pub none_first : {X : Type 0} (xs : List X) → slice_get xs 0 ≡ None → xs ≡ []
+none_first [] e = refl
+none_first (x ∷ xs) e = cc
+
+-- the span of the term at a place
+pub span_there : (spans : List (TermKey × Span)) (i : ℕ) (e : TermKey × Span) → T (is_sorted term_cmp spans) → i < length spans → e ≡ get_or spans i e → span_of e.0 spans ≡ Some e.1
+span_there spans i e sorted fits is =
+    find_at term_cmp term_total e.0 spans i e sorted fits (ap (λ (x : TermKey × Span). term_cmp x.0 e.0) (sym is) ∙ term_self e.0) ∙ ap (λ (x : TermKey × Span). Some x.1) (sym is)

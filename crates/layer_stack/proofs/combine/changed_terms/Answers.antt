@@ -1,0 +1,33 @@
+use Rattle.std.proofs.Common.{rules, arith, ◌≡◌, ◌||◌, T, List, ap, ◌∙◌, sym, subst}
+use Rattle.std.specs.FinMap as finite
+use Rattle.std.specs.FinMap.{is_sorted}
+use Rattle.std.proofs.lemmas.Result.{IfOk-weaker}
+use Rattle.posting_lists.specs.Postings.{section}
+use Rattle.layer_base.specs.Layers.{from_log}
+use Rattle.layer_stack.specs.declared.place.TermKey.{TermKey}
+use Rattle.layer_stack.specs.Combined.{is_among, is_changed, AreChanged}
+use Rattle.layer_stack.specs.Places.{term_cmp}
+use Rattle.layer_stack.specs.Words.{has_term}
+use Rattle.layer_stack.proofs.Combined.{changed_more, among_last}
+use Rattle.layer_stack.proofs.Order.{term_apart}
+use Rattle.layer_stack.proofs.combine.changed_terms.Goals as goal
+
+pub loop-i-preserved : goal.loop-i-preserved
+loop-i-preserved c t =
+    let layer = c.layer.result.now.value in
+    let is : c.deref.result.now ≡ layer = search rules in
+    changed_more t c.args.stack.now.0 c.loop-i.i layer (is_among t c.loop-i.log.items) (is_among t c.note_terms.new.terms.items) c.loop-i.auto.i c.layer.ensures (c.loop-i.invariant t)
+    (c.in_ok-note_terms.ensures {u = tt} t ∙ ap (λ l. is_among t c.loop-i.log.items || has_term t l) is)
+
+pub last_words-requires : goal.last_words-requires
+last_words-requires c = term_apart
+
+pub returns : goal.returns
+returns c =
+    let layers = c.args.stack.now.0 in let log = c.loop-i.log.items in
+    let all : c.loop-i.i ≡ c.args.count = omega (arith, c.loop-i-test.false, c.loop-i.auto.i-end, c.requires) in
+    IfOk-weaker c.last_words.result (λ rows. rows.items ≡ finite.entries (from_log {R = term_cmp} log)) (λ rows. AreChanged (section 1 c.args.count layers) rows.items)
+    (λ rows is. record {
+      sorted = subst (λ (es : List (TermKey × Unit {0})). T (is_sorted term_cmp es)) (sym is) (finite.entries_sorted (from_log {R = term_cmp} log));
+      exact = λ t. ap (is_among t) is ∙ among_last t log ∙ c.loop-i.invariant t ∙ ap (λ n. is_changed t (section 1 n layers)) all;
+    }) c.last_words.ensures.last

@@ -1,0 +1,61 @@
+use Rattle.std.proofs.Common.{rules, arith, ◌≡◌, ◌<◌, ◌≤◌, ◌++◌, ◌∷◌, [], List, cond, false, length, map, take, ap, ◌∙◌, sym, subst}
+use Rattle.std.specs.Map.Iter.{deref_pair}
+use Rattle.std.proofs.lemmas.List.{map-append, take_all}
+use Rattle.std.proofs.lemmas.Iterator.Consumers.{YieldsList-from_rest, YieldsList-turn, YieldsList-end}
+use Rattle.posting_lists.specs.Postings.{section}
+use Rattle.layer_base.specs.Layers.{stack_table}
+use Rattle.layer_stack.specs.declared.directory.Span.{Span}
+use Rattle.layer_stack.specs.declared.place.TermKey.{TermKey}
+use Rattle.layer_stack.specs.Combined.{is_among, putting_terms}
+use Rattle.layer_stack.specs.Postings.{PostingChanges, postings_of, putting_list}
+use Rattle.layer_stack.specs.Spans.{spanned, told}
+use Rattle.layer_stack.proofs.Combined.{Has, is_done, done_start, done_terms, done_span, all_done, span_there}
+use Rattle.layer_stack.proofs.combine.combined.Goals as goal
+
+pub loop-term-init : goal.loop-term-init
+loop-term-init c =
+    let table = stack_table (take c.args.count c.args.stack.now.0) in
+    record {
+      within = omega arith;
+      has = subst (λ (d : PostingChanges). Has table (is_done c.args.changed.now 0 []) d) (sym c.new-delta.ensures) (done_start table c.args.changed.now);
+    }
+
+pub put_unchanged-requires-clause-within : goal.put_unchanged-requires-clause-within
+put_unchanged-requires-clause-within c =
+    let start : c.into_iter-term-iterator.result ≡ c.args.directory.now = search rules in
+    let road = YieldsList-from_rest {shows = deref_pair {K = TermKey} {X = Span}} {s = c.into_iter-term-iterator.result} c.args.directory.now start in
+    let turn = YieldsList-turn road c.loop-term.yielded c.loop-term.term-iterator c.loop-term.yielded_by _ c.next.new.self (c.in-Some.term, c.in-Some.span) c.in-Some.is c.next.ensures.steps in
+    let within = subst (λ (e : TermKey × Span). (e.1.from < e.1.to) × (e.1.to ≤ length c.args.postings.now)) (sym turn.1) (c.requires.spans.within (length c.loop-term.yielded) (c.in-Some.term.now, c.in-Some.span.now) turn.0) in
+    (omega (arith, within.0), within.1)
+
+pub loop-term-preserved : goal.loop-term-preserved
+loop-term-preserved c =
+    let table = stack_table (take c.args.count c.args.stack.now.0) in let changed = c.args.changed.now in let directory = c.args.directory.now in let ps = c.args.postings.now in
+    let at = c.loop-term.at in let to = c.passed-to.result in let spans = map deref_pair c.loop-term.yielded in
+    let e : TermKey × Span = (c.in-Some.term.now, c.in-Some.span.now) in let c1 = c.put_terms.new.delta in
+    let start : c.into_iter-term-iterator.result ≡ directory = search rules in
+    let road = YieldsList-from_rest {shows = deref_pair {K = TermKey} {X = Span}} {s = c.into_iter-term-iterator.result} directory start in
+    let turn = YieldsList-turn road c.loop-term.yielded c.loop-term.term-iterator c.loop-term.yielded_by _ c.next.new.self (c.in-Some.term, c.in-Some.span) c.in-Some.is c.next.ensures.steps in
+    let alone : is_among e.0 changed ≡ false → spanned e.1 ps ≡ postings_of e.0 table =
+    λ none. ap (λ o. told o ps) (sym (span_there directory (length c.loop-term.yielded) e c.requires.spans.sorted turn.0 turn.1)) ∙ c.requires.alone e.0 none in
+    let terms : c1 ≡ putting_terms table (section at to changed) c.loop-term.delta = c.in_ok-put_terms.ensures {u = tt} in
+    let has = subst (λ (d : PostingChanges). Has table (is_done changed to spans) d) (sym terms) (done_terms table changed at to spans c.loop-term.delta c.passed-to.ensures.0 c.passed-to.ensures.1 c.loop-term.invariant.has) in
+    let more = sym (map-append (deref_pair {K = TermKey} {X = Span}) c.loop-term.yielded ((c.in-Some.term, c.in-Some.span) ∷ [])) in
+    record {
+      within = c.passed-to.ensures.1;
+      has = subst (λ (d : PostingChanges). Has table (is_done changed to (map deref_pair (c.loop-term.yielded ++ (c.in-Some.term, c.in-Some.span) ∷ []))) d) (sym (c.in_ok-put_unchanged.ensures {u = tt}))
+          (subst (λ (ss : List (TermKey × Span)). Has table (is_done changed to ss) (cond (is_among e.0 changed) c1 (putting_list e.0 (spanned e.1 ps) c1))) more
+          (done_span table changed to spans e (spanned e.1 ps) c1 alone has));
+    }
+
+pub returns : goal.returns
+returns c =
+    let table = stack_table (take c.args.count c.args.stack.now.0) in let changed = c.args.changed.now in let directory = c.args.directory.now in let ps = c.args.postings.now in
+    let at = c.loop-term.at in let all = length changed in let spans = map deref_pair c.loop-term.yielded in
+    let start : c.into_iter-term-iterator.result ≡ directory = search rules in
+    let road = YieldsList-from_rest {shows = deref_pair {K = TermKey} {X = Span}} {s = c.into_iter-term-iterator.result} directory start in
+    let end = YieldsList-end road c.loop-term.yielded c.loop-term.term-iterator c.loop-term.yielded_by _ c.next.new.self c.in-None.is c.next.ensures.steps in
+    let terms : c.put_terms-2.new.delta ≡ putting_terms table (section at all changed) c.loop-term.delta = c.in_ok-put_terms-2.ensures {u = tt} in
+    let has = subst (λ (d : PostingChanges). Has table (is_done changed all spans) d) (sym terms) (done_terms table changed at all spans c.loop-term.delta c.loop-term.invariant.within (omega arith) c.loop-term.invariant.has) in
+    all_done table changed all directory ps c.put_terms-2.new.delta (take_all all changed (omega arith)) c.requires.alone
+    (subst (λ (ss : List (TermKey × Span)). Has table (is_done changed all ss) c.put_terms-2.new.delta) end.0 has)

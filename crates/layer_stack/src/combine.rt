@@ -1,0 +1,144 @@
+//! The oldest layers of a stack as one. The terms that the newer ones of them leave alone are
+//! copied from the oldest, and only the others are read through all.
+ghost use Rattle.std.specs.Prelude.{◌≡◌, ◌≤◌, ◌<◌, T, cond, take, length, false, IfOk, OnOk};
+ghost use Rattle.std.specs.FinMap.{is_sorted};
+ghost use Rattle.posting_lists.specs.Postings.{section};
+ghost use Rattle.layer_base.specs.Layers.{stack_table};
+ghost use Rattle.layer_stack.specs.Places.{term_cmp};
+ghost use Rattle.layer_stack.specs.Postings.{postings_of, putting_all, putting_list};
+ghost use Rattle.layer_stack.specs.Spans.{spanned, IsSpans};
+ghost use Rattle.layer_stack.specs.Combined.{AreChanged, is_among, putting_terms, StandsAlone};
+
+use crate::directory::{Directory, Span};
+use crate::{Delta, Stack, TermKey};
+use layer_base::{last_words, look_up};
+use posting_lists::PostingColumns;
+use std::alloc::{AllocError, Global};
+use uni_base::DocCursor;
+
+// The terms at which layers after the oldest one, up to a count, delete or put: in order, each once.
+pub(crate) fn changed_terms(
+    alloc: Global,
+    stack: &Stack,
+    count: usize,
+) -> Result<Vec<(TermKey, ())>, AllocError>
+    requires { (0 < count) × (count ≤ length stack.now.0) }
+    ensures { IfOk result (λ terms. AreChanged (section 1 count stack.now.0) terms.items) }
+{
+    let mut log = Vec::new(alloc);
+    for i in 1..count {
+        stack.layer(i).note_terms(&mut log)?;
+    }
+    last_words(log)
+}
+
+// Puts what the first layers of a stack stand for. The directory and the postings are what the
+// oldest one puts, which stands alone under each term that is not among the changed ones.
+pub(crate) fn combined(
+    alloc: Global,
+    stack: &Stack,
+    count: usize,
+    changed: &[(TermKey, ())],
+    directory: &Directory,
+    postings: &PostingColumns,
+) -> Result<Delta, AllocError>
+    requires count { count ≤ length stack.now.0 }
+    requires sorted { T (is_sorted term_cmp changed.now) }
+    requires spans { IsSpans (length postings.now) directory.now }
+    requires alone { StandsAlone changed.now directory.now postings.now (stack_table (take count stack.now.0)) }
+    ensures { IfOk result (λ delta. delta ≡ putting_all (stack_table (take count stack.now.0))) }
+{
+    let mut delta = Delta::new(alloc);
+    let mut at = 0;
+    for (term, span) in directory.iter() {
+        let to = passed(changed, at, term);
+        put_terms(alloc, &mut delta, stack, count, &changed[at..to])?;
+        put_unchanged(&mut delta, changed, term, postings, *span)?;
+        at = to;
+    }
+    put_terms(alloc, &mut delta, stack, count, &changed[at..changed.len()])?;
+    Ok(delta)
+}
+
+// The first place, from a given one on, whose term comes after another term.
+fn passed(terms: &[(TermKey, ())], from: usize, term: &TermKey) -> usize
+    requires { from ≤ length terms.now }
+    ensures { (from ≤ result) × (result ≤ length terms.now) }
+{
+    for at in from..terms.len() {
+        if terms[at].0.cmp(term).is_gt() {
+            return at;
+        }
+    }
+    terms.len()
+}
+
+// Puts what the first layers of a stack have under some terms.
+fn put_terms(
+    alloc: Global,
+    delta: &mut Delta,
+    stack: &Stack,
+    count: usize,
+    terms: &[(TermKey, ())],
+) -> Result<(), AllocError>
+    requires { count ≤ length stack.now.0 }
+    ensures { OnOk result (delta.new ≡ putting_terms (stack_table (take count stack.now.0)) terms.now delta.old) }
+{
+    for (term, _nothing) in terms {
+        put_term(alloc, delta, stack, count, term)?;
+    }
+    Ok(())
+}
+
+// Puts what the first layers of a stack have under a term.
+fn put_term(
+    alloc: Global,
+    delta: &mut Delta,
+    stack: &Stack,
+    count: usize,
+    term: &TermKey,
+) -> Result<(), AllocError>
+    requires { count ≤ length stack.now.0 }
+    ensures { OnOk result (delta.new ≡ putting_list term.now (postings_of term.now (stack_table (take count stack.now.0))) delta.old) }
+{
+    let mut cursor = stack.front_cursor(alloc, count, term)?;
+    while let Some(posting) = cursor.posting() {
+        delta.put(*term, posting)?;
+        cursor.step();
+    }
+    Ok(())
+}
+
+// Puts the postings of a span, unless their term is among the changed ones.
+fn put_unchanged(
+    delta: &mut Delta,
+    changed: &[(TermKey, ())],
+    term: &TermKey,
+    postings: &PostingColumns,
+    span: Span,
+) -> Result<(), AllocError>
+    requires sorted { T (is_sorted term_cmp changed.now) }
+    requires within { (span.from ≤ span.to) × (span.to ≤ length postings.now) }
+    ensures { OnOk result (delta.new ≡ cond (is_among term.now changed.now) delta.old (putting_list term.now (spanned span postings.now) delta.old)) }
+{
+    if look_up(changed, term).is_some() {
+        return Ok(());
+    }
+    put_span(delta, term, postings, span)
+}
+
+// Puts the postings of a span.
+fn put_span(
+    delta: &mut Delta,
+    term: &TermKey,
+    postings: &PostingColumns,
+    span: Span,
+) -> Result<(), AllocError>
+    requires { (span.from ≤ span.to) × (span.to ≤ length postings.now) }
+    ensures { OnOk result (delta.new ≡ putting_list term.now (spanned span postings.now) delta.old) }
+{
+    for i in span.from..span.to {
+        delta.put(*term, postings.posting(i))?;
+    }
+    Ok(())
+}
