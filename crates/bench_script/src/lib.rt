@@ -1,0 +1,10 @@
+//! The script that the service measures itself by, made from a seed and a number of people.
+#![tactic(auto)]
+
+mod draws;
+mod lines;
+mod script;
+#[cfg(test)]
+mod tests;
+
+pub use script::bench_script;
