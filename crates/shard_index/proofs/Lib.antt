@@ -19,7 +19,6 @@ pub mod JoinedLayers
 pub mod KeptEdges
 pub mod LoggedMaps
 pub mod MergedTables
-pub mod NotedRuns
 pub mod OwnChanges
 pub mod PostedRows
 pub mod ReachedItems

@@ -7,7 +7,6 @@ pub mod Joined
 pub mod Laws
 pub mod Places
 pub mod Rows
-pub mod Runs
 pub mod Shards
 pub mod Split
 pub mod Touched

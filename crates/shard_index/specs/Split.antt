@@ -1,6 +1,7 @@
 -- The changes of a batch, by the shard of a vertical that they concern.
 use Rattle.std.specs.Prelude.{◌≡◌, ℕ, Bool, false, ◌==◌, ◌||◌, if◌then◌else◌, List, [], ◌∷◌, ◌++◌, map, filter, Option, None, Some, get_or, slice_set}
 use Rattle.std.specs.declared.vec.Vec.{Vec}
+use Rattle.std.specs.Borrow.{Bor}
 use Rattle.std.specs.Global.{Global}
 use Rattle.std.specs.List.{range_with_len}
 use Rattle.std.specs.Option.{option_and_then, option_map, option_map_or}
@@ -55,6 +56,14 @@ edges_by_shard schema vertical = split_by (shard_of_edge schema vertical) (shard
 -- the lists of vectors
 abbrev pub lists_of : {X : Type 0} → List (Vec X Global) → List (List X)
 lists_of vectors = map (λ v. v.items) vectors
+
+-- what references refer to
+abbrev pub told : {X : Type 0} → List (Bor X) → List X
+told items = map (λ x. x.now) items
+
+-- the lists of what vectors refer to
+abbrev pub lists_told : {X : Type 0} → List (Vec (Bor X) Global) → List (List X)
+lists_told vectors = map told (lists_of vectors)
 
 -- so many empty lists
 abbrev pub empty_lists_of : {X : Type 0} → ℕ → List (List X)

@@ -8,9 +8,8 @@ ghost use Rattle.shard_index.specs.Rows.{no_rows, layer_over, stack_rows};
 ghost use Rattle.shard_index.specs.Shards.{entity_row, row_of, posting_row, table_rows, table_postings};
 
 use crate::records::record_layer;
-use crate::runs::RunDelta;
 use crate::{EntityDelta, EntityLayer, ShardIndex, ShardLayer};
-use layer_stack::{Layer, TermKey};
+use layer_stack::{Delta, Layer, TermKey};
 use posting_lists::Posting;
 use std::alloc::{AllocError, Global};
 use std::sync::Arc;
@@ -76,13 +75,13 @@ fn posting_layer(alloc: Global, table: &Table, held: &[Held]) -> Result<Layer, A
     requires { AreDeclared table.now.schema held.now }
     ensures { IfOk result (λ layer. layer ≡ putting_all (table_postings table.now held.now)) }
 {
-    let mut delta = RunDelta::new(alloc);
+    let mut delta = Delta::new(alloc);
     for edge in held {
         if let Some((term, posting)) = posting_of(table, edge) {
             delta.put(term, posting)?;
         }
     }
-    delta.build(alloc)
+    Layer::build(alloc, delta)
 }
 
 // The posting of an index edge, with its term. None exactly where the edge is a forward one, or its

@@ -4,7 +4,7 @@ ghost use Rattle.std.specs.Prelude.{◌<◌, length, IfOk, OnOk};
 ghost use Rattle.uni_table.specs.Changes.{AreEdgeChanges, AreEntityChanges};
 ghost use Rattle.shard_index.specs.Batches.{all_shards, shards_at, shard_place, TakesOver, TakeOver, TakesMore};
 ghost use Rattle.shard_index.specs.ChangedRows.{TakesBack};
-ghost use Rattle.shard_index.specs.Split.{OwnEdges, OwnEntities};
+ghost use Rattle.shard_index.specs.Split.{OwnEdges, OwnEntities, told};
 
 use crate::{EntityLayer, ShardLayer};
 use std::alloc::{AllocError, Global};
@@ -80,14 +80,14 @@ fn shard_layer(
     alloc: Global,
     table: &Table,
     entities: &[EntityChange],
-    edges: &[EdgeChange],
+    edges: &[&EdgeChange],
     back: &EntityLayer,
     vertical: u16,
     shard: u32,
 ) -> Result<ShardLayer, AllocError>
     requires vertical { vertical < length table.now.schema.verticals }
     requires entities { OwnEntities table.now.schema table.now.published table.now.contents vertical shard entities.now }
-    requires edges { OwnEdges table.now.schema table.now.published table.now.contents vertical shard edges.now }
+    requires edges { OwnEdges table.now.schema table.now.published table.now.contents vertical shard (told edges.now) }
     requires back { TakesBack back.now table.now.contents table.now.published }
     ensures { IfOk result (TakesOver table.now.schema table.now.published table.now.contents (shard_place vertical shard)) }
 {

@@ -13,7 +13,6 @@ mod merge;
 mod places;
 mod ranks;
 mod records;
-mod runs;
 mod stacks;
 #[cfg(test)]
 mod tests;

@@ -52,3 +52,7 @@ change_told rows edge e =
 
 abbrev pub placed_change : Rows → PlacedEdge → Option EdgeChange
 placed_change rows edge = option_and_then (change_told rows (edge_told rows edge)) (slice_get rows.edges.entries edge.place)
+
+-- what stands there
+abbrev pub standing_at : Rows → PlacedEdge → Option (EdgeNo × Slot)
+standing_at rows edge = slice_get rows.edges.entries edge.place

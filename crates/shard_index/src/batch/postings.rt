@@ -6,10 +6,10 @@ ghost use Rattle.uni_table.specs.Changes.{rank_at};
 ghost use Rattle.layer_stack.specs.Places.{place_cmp};
 ghost use Rattle.layer_stack.specs.Postings.{deleting, putting};
 ghost use Rattle.shard_index.specs.ChangedRows.{same_audience, is_posted, posting_for, turning, with_change, batch_postings, TakesBack};
+ghost use Rattle.shard_index.specs.Split.{told};
 
 use crate::EntityLayer;
-use crate::runs::RunDelta;
-use layer_stack::{Layer, Place, TermKey};
+use layer_stack::{Delta, Layer, Place, TermKey};
 use posting_lists::Posting;
 use std::alloc::{AllocError, Global};
 use uni_base::{Audience, DocKey, EdgeRef, EntityId, Rank};
@@ -24,20 +24,20 @@ pub(super) fn shard_postings(
     back: &EntityLayer,
     vertical: u16,
     shard: u32,
-    changes: &[EdgeChange],
+    changes: &[&EdgeChange],
 ) -> Result<Layer, AllocError>
     requires vertical { vertical < length table.now.schema.verticals }
-    requires declared { All (λ c. c.edge.type_no < length table.now.schema.types) changes.now }
+    requires declared { All (λ c. c.edge.type_no < length table.now.schema.types) (told changes.now) }
     requires back { TakesBack back.now table.now.contents table.now.published }
-    ensures { IfOk result (λ layer. layer ≡ batch_postings table.now vertical shard changes.now) }
+    ensures { IfOk result (λ layer. layer ≡ batch_postings table.now vertical shard (told changes.now)) }
 {
-    let mut delta = RunDelta::new(alloc);
+    let mut delta = Delta::new(alloc);
     for change in changes {
         if is_posted(table.schema(), vertical, shard, &change.edge) {
             note_change(&mut delta, table, back, change)?;
         }
     }
-    delta.build(alloc)
+    Layer::build(alloc, delta)
 }
 
 // Whether an edge is an index edge into a shard of a vertical.
@@ -54,7 +54,7 @@ fn is_posted(schema: &Schema, vertical: u16, shard: u32, edge: &EdgeRef) -> bool
 
 // Notes what became of the posting of an edge.
 fn note_change(
-    delta: &mut RunDelta,
+    delta: &mut Delta,
     table: &Table,
     back: &EntityLayer,
     change: &EdgeChange,
@@ -94,7 +94,7 @@ fn posting(edge: &EdgeRef, rank: Option<Rank>, row: Option<EdgeRow>) -> Option<(
 
 // Notes that there was a posting and that there is one now, where there was or is one.
 fn note(
-    delta: &mut RunDelta,
+    delta: &mut Delta,
     was: &Option<(Place, Audience)>,
     now: &Option<(Place, Audience)>,
 ) -> Result<(), AllocError>
@@ -110,7 +110,7 @@ fn note(
 
 // Notes that there was a posting and that there is one now.
 fn note_both(
-    delta: &mut RunDelta,
+    delta: &mut Delta,
     was: &(Place, Audience),
     now: &(Place, Audience),
 ) -> Result<(), AllocError>
@@ -127,14 +127,14 @@ fn note_both(
 }
 
 // Deletes the posting at a place.
-fn delete(delta: &mut RunDelta, place: &Place) -> Result<(), AllocError>
+fn delete(delta: &mut Delta, place: &Place) -> Result<(), AllocError>
     ensures { OnOk result (delta.new ≡ deleting delta.old place.now) }
 {
     delta.delete(place.term, place.key)
 }
 
 // Puts a posting.
-fn put(delta: &mut RunDelta, place: &Place, audience: &Audience) -> Result<(), AllocError>
+fn put(delta: &mut Delta, place: &Place, audience: &Audience) -> Result<(), AllocError>
     ensures { OnOk result (delta.new ≡ putting delta.old place.now audience.now) }
 {
     let posting = Posting {

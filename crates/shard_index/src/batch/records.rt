@@ -4,6 +4,7 @@ ghost use Rattle.std.specs.List.{All};
 ghost use Rattle.std.specs.Option.{option_or};
 ghost use Rattle.uni_table.specs.TableState.{IsKept};
 ghost use Rattle.shard_index.specs.ChangedRows.{same_audiences, audience_of, record_within, changed_record, replacing_new, items_of, is_record, target_row, row_item, AreBatchRecords};
+ghost use Rattle.shard_index.specs.Split.{told};
 
 use crate::batch::postings::same_audience;
 use forward_data::{ForwardDelta, ForwardItem, ForwardItems, ForwardLayer, RecordKey};
@@ -20,11 +21,11 @@ pub(super) fn shard_records(
     table: &Table,
     vertical: u16,
     shard: u32,
-    changes: &[EdgeChange],
+    changes: &[&EdgeChange],
 ) -> Result<ForwardLayer, AllocError>
     requires vertical { vertical < length table.now.schema.verticals }
-    requires declared { All (λ c. c.edge.type_no < length table.now.schema.types) changes.now }
-    ensures { IfOk result (AreBatchRecords table.now vertical shard changes.now) }
+    requires declared { All (λ c. c.edge.type_no < length table.now.schema.types) (told changes.now) }
+    ensures { IfOk result (AreBatchRecords table.now vertical shard (told changes.now)) }
 {
     let mut delta = ForwardDelta::new(alloc);
     let mut last = None;

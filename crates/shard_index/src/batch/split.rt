@@ -1,7 +1,7 @@
 //! The changes of a batch by the shard of a vertical that they concern.
 ghost use Rattle.std.specs.Prelude.{◌≡◌, ◌<◌, length, IfOk, OnOk};
 ghost use Rattle.std.specs.List.{All};
-ghost use Rattle.shard_index.specs.Split.{is_row_of, shard_of_entity, shard_of_edge, with_item, lists_of};
+ghost use Rattle.shard_index.specs.Split.{is_row_of, shard_of_entity, shard_of_edge, with_item, lists_of, lists_told};
 ghost use Rattle.shard_index.specs.Split.{empty_lists_of, entities_by_shard, edges_by_shard};
 
 use std::alloc::{AllocError, Global};
@@ -27,21 +27,21 @@ pub(super) fn split_entities(
     Ok(lists)
 }
 
-/// The changes of edges, a list for each shard of a vertical.
-pub(super) fn split_edges(
+/// The changes of edges, a list for each shard of a vertical, which lends them.
+pub(super) fn split_edges<'a>(
     alloc: Global,
     schema: &Schema,
     vertical: u16,
-    changes: &[EdgeChange],
-) -> Result<Vec<Vec<EdgeChange>>, AllocError>
+    changes: &'a [EdgeChange],
+) -> Result<Vec<Vec<&'a EdgeChange>>, AllocError>
     requires vertical { vertical < length schema.now.verticals }
     requires declared { All (λ c. c.edge.type_no < length schema.now.types) changes.now }
-    ensures { IfOk result (λ lists. lists_of lists.items ≡ edges_by_shard schema.now vertical changes.now) }
+    ensures { IfOk result (λ lists. lists_told lists.items ≡ edges_by_shard schema.now vertical changes.now) }
 {
     let mut lists = empty_lists(alloc, schema.vertical(vertical).shards)?;
     for change in changes {
         let shard = shard_of_edge(schema, vertical, change);
-        push_at(&mut lists, shard, *change)?;
+        push_at(&mut lists, shard, change)?;
     }
     Ok(lists)
 }

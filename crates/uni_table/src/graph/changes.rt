@@ -1,10 +1,10 @@
 //! What differs between what the rows stand for and what they stood for at the last publish.
-ghost use Rattle.std.specs.Prelude.{◌≡◌, ◌++◌, ◌∷◌, [], false, length, nat_eq, slice_get, IfOk, OnOk};
+ghost use Rattle.std.specs.Prelude.{◌≡◌, ◌++◌, ◌∷◌, [], false, length, map, nat_eq, slice_get, IfOk, OnOk};
 ghost use Rattle.std.specs.List.{IsDistinct, filter_map};
 ghost use Rattle.std.specs.Option.{option_map, option_map_or, option_to_list};
 ghost use Rattle.uni_table.specs.Changes.{AreEdgeChanges, HasEntityChanges};
 ghost use Rattle.uni_table.specs.GraphChanges.{entity_change_at, has_moved, is_affected, AddsLed, AddsLedBy, AddsMoved, AreAffected};
-ghost use Rattle.uni_table.specs.GraphOrder.{placed_change};
+ghost use Rattle.uni_table.specs.GraphOrder.{placed_change, standing_at};
 ghost use Rattle.uni_table.specs.GraphRows.{contents_of, published_of, IsRows};
 
 use super::numbers::{EdgeNo, Side, Slot};
@@ -100,12 +100,14 @@ impl Rows {
     fn add_edge_change(
         &self,
         edge: &PlacedEdge,
+        standing: &Option<(EdgeNo, Slot)>,
         changes: &mut Vec<EdgeChange>,
     ) -> Result<(), AllocError>
-        requires { IsRows self.now }
+        requires kept { IsRows self.now }
+        requires standing { standing.now ≡ standing_at self.now edge.now }
         ensures { OnOk result (changes.new.items ≡ changes.old.items ++ option_to_list (placed_change self.now edge.now)) }
     {
-        let Some((number, slot)) = self.edges.get_index(edge.place as usize) else {
+        let Some((number, slot)) = standing else {
             return Ok(());
         };
         if !self.is_affected(*number, slot) {
@@ -184,13 +186,15 @@ impl Rows {
         &self,
         alloc: Global,
         edges: &[PlacedEdge],
+        standing: &[Option<(EdgeNo, Slot)>],
     ) -> Result<Vec<EdgeChange>, AllocError>
-        requires { IsRows self.now }
+        requires kept { IsRows self.now }
+        requires standing { standing.now ≡ map (standing_at self.now) edges.now }
         ensures { IfOk result (λ changes. changes.items ≡ filter_map (placed_change self.now) edges.now) }
     {
         let mut changes = Vec::with_capacity(alloc, edges.len())?;
-        for edge in edges {
-            self.add_edge_change(edge, &mut changes)?;
+        for i in 0..edges.len() {
+            self.add_edge_change(&edges[i], &standing[i], &mut changes)?;
         }
         Ok(changes)
     }
@@ -204,6 +208,7 @@ impl Rows {
         let places = self.affected(alloc)?;
         let edges = self.placed_edges(alloc, places.as_slice())?;
         let edges = self.in_order(edges);
-        self.edge_changes_at(alloc, edges.as_slice())
+        let standing = self.standing(alloc, edges.as_slice())?;
+        self.edge_changes_at(alloc, edges.as_slice(), standing.as_slice())
     }
 }

@@ -3,9 +3,9 @@ use Rattle.std.specs.List.{All}
 use Rattle.uni_schema.specs.Schema.{Declarations}
 use Rattle.uni_table.specs.declared.change.EdgeChange.{EdgeChange}
 use Rattle.shard_index.specs.Places.{shards_in}
-use Rattle.shard_index.specs.Split.{lists_of, split_by, shard_of_entity, shard_of_edge}
+use Rattle.shard_index.specs.Split.{told, lists_of, lists_told, split_by, shard_of_entity, shard_of_edge}
 use Rattle.shard_index.proofs.BatchShards.{changes_declared, shard_added}
-use Rattle.shard_index.proofs.SplitLists.{as_many, own_list}
+use Rattle.shard_index.proofs.SplitLists.{as_many, as_many_told, own_list, own_told}
 use Rattle.shard_index.proofs.batch.add_vertical.Goals as goal
 
 pub split_edges-requires-clause-declared : goal.split_edges-requires-clause-declared
@@ -28,10 +28,10 @@ pub index-requires-in-loop-shard : goal.index-requires-in-loop-shard
 index-requires-in-loop-shard c =
     let schema = c.args.table.now.schema in let v = c.args.vertical in
     let same : c.deref-2.result.now ≡ schema = search rules in
-    let split : lists_of c.in_ok-edges.edges.items ≡ split_by (shard_of_edge schema v) (shards_in schema v) c.args.edges.now =
+    let split : lists_told c.in_ok-edges.edges.items ≡ split_by (shard_of_edge schema v) (shards_in schema v) c.args.edges.now =
     c.in_ok-edges.ensures {u = tt} ∙ ap (λ (d : Declarations). split_by (shard_of_edge d v) (shards_in d v) c.args.edges.now) same in
     let below : c.loop-shard.shard < shards_in schema v = search rules in
-    omega (arith, below, as_many c.in_ok-edges.edges.items (shard_of_edge schema v) (shards_in schema v) c.args.edges.now split)
+    omega (arith, below, as_many_told c.in_ok-edges.edges.items (shard_of_edge schema v) (shards_in schema v) c.args.edges.now split)
 
 pub shard_layer-requires-clause-entities : goal.shard_layer-requires-clause-entities
 shard_layer-requires-clause-entities c =
@@ -51,14 +51,14 @@ pub shard_layer-requires-clause-edges : goal.shard_layer-requires-clause-edges
 shard_layer-requires-clause-edges c =
     let schema = c.args.table.now.schema in let v = c.args.vertical in
     let same : c.deref-2.result.now ≡ schema = search rules in
-    let split : lists_of c.in_ok-edges.edges.items ≡ split_by (shard_of_edge schema v) (shards_in schema v) c.args.edges.now =
+    let split : lists_told c.in_ok-edges.edges.items ≡ split_by (shard_of_edge schema v) (shards_in schema v) c.args.edges.now =
     c.in_ok-edges.ensures {u = tt} ∙ ap (λ (d : Declarations). split_by (shard_of_edge d v) (shards_in d v) c.args.edges.now) same in
     let below : c.loop-shard.shard < shards_in schema v = search rules in
     record {
       all = c.args.edges.now;
       are = c.requires.edges;
-      is = c.as_slice-own_edges.ensures.value
-          ∙ own_list c.in_ok-edges.edges.items (shard_of_edge schema v) (shards_in schema v) c.args.edges.now split c.loop-shard.shard c.index-in-loop-shard.result.now below c.index-in-loop-shard.ensures;
+      is = ap told c.as_slice-own_edges.ensures.value
+          ∙ own_told c.in_ok-edges.edges.items (shard_of_edge schema v) (shards_in schema v) c.args.edges.now split c.loop-shard.shard c.index-in-loop-shard.result.now below c.index-in-loop-shard.ensures;
     }
 
 pub loop-shard-preserved : goal.loop-shard-preserved

@@ -3,6 +3,7 @@ use Rattle.uni_schema.specs.Schema.{Declarations}
 use Rattle.forward_data.specs.Records.{Records}
 use Rattle.shard_index.specs.ChangedRows.{shard_entities, shard_postings, AreShardRecords}
 use Rattle.shard_index.specs.Shards.{shard_rows}
+use Rattle.shard_index.specs.Split.{told}
 use Rattle.layer_base.specs.Layers.{layer_over as table_over}
 use Rattle.shard_index.proofs.BatchShards.{changes_declared, parts_take}
 use Rattle.shard_index.proofs.FewEntries.{few_entries}
@@ -44,7 +45,7 @@ returns c =
     let moved = postings ∙ c.in_ok-postings.ensures {u = tt} ∙ ap (shard_postings schema v s old new) own_edges.is ∙ postings_left schema v s old new own_edges.all in
     let noted : AreShardRecords schema v s new own_edges.all c.join.result.records =
     records_left schema v s new own_edges.all c.join.result.records
-    (subst (λ (es : List EdgeChange). AreShardRecords schema v s new es c.join.result.records) own_edges.is (subst (λ (r : Records). AreShardRecords schema v s new c.args.edges.now r) (sym records) (c.in_ok-forward.ensures {u = tt}))) in
+    (subst (λ (es : List EdgeChange). AreShardRecords schema v s new es c.join.result.records) own_edges.is (subst (λ (r : Records). AreShardRecords schema v s new (told c.args.edges.now) r) (sym records) (c.in_ok-forward.ensures {u = tt}))) in
     record {
       rows = parts_take (shard_rows schema old v s) (shard_rows schema new v s) c.join.result (record {
         entities = ap (table_over (shard_rows schema old v s).entities) removed ∙ entities_turned old new own.all own.are schema table.limits v s old_kept kept;

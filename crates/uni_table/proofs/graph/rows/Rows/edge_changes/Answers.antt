@@ -13,6 +13,6 @@ returns c =
     let rows = c.args.self.now in
     let placed = c.in_ok-edges.ensures ∙ ap (filter_map (placed_at rows)) c.as_slice.ensures.value in
     IfOk-weaker c.edge_changes_at.result _ _
-    (λ changes is. subst (AreEdgeChanges (published_of rows) (contents_of rows)) (sym (is ∙ ap (filter_map (placed_change rows)) c.as_slice-2.ensures.value))
+    (λ changes is. subst (AreEdgeChanges (published_of rows) (contents_of rows)) (sym (is ∙ ap (filter_map (placed_change rows)) c.as_slice-3.ensures.value))
     (changes-in-order rows c.requires c.in_ok-places.places.items c.in_ok-places.ensures.apart c.in_ok-places.ensures.whole c.in_order-edges.result.items
     (subst (λ es. IsPermutation es c.in_order-edges.result.items) placed c.in_order-edges.ensures.permutation) c.in_order-edges.ensures.sorted)) c.edge_changes_at.ensures
