@@ -1,10 +1,12 @@
-ghost use Rattle.std.specs.Prelude.{◌≡◌, ◌<◌, ◌^◌, ◌++◌, T, map, OnOk, OnErr, IfOk};
+ghost use Rattle.std.specs.Prelude.{◌≡◌, ◌<◌, ◌≤◌, ◌^◌, ◌++◌, Some, length, map, take, drop, OnOk, OnErr, IfOk};
+ghost use Rattle.std.specs.List.{slice_get};
 ghost use Rattle.std.specs.FinMap as finite;
-ghost use Rattle.std.specs.FinMap.{is_sorted};
 ghost use Rattle.std.specs.Option.{option_map};
-ghost use Rattle.forward_data.specs.Records.{record_key, record_cmp, replacing, left_by};
+ghost use Rattle.forward_data.specs.Combined.{AreChanged, bare};
+ghost use Rattle.forward_data.specs.Records.{record_key, left_by, records_of};
 
-use crate::{ForwardItem, ForwardItems, RecordKey};
+use crate::combine::combined;
+use crate::{ForwardItem, ForwardItems, ForwardStack, RecordKey};
 use layer_base::{last_words, look_up};
 use std::alloc::{AllocError, Global};
 use std::marker::Model;
@@ -86,14 +88,6 @@ impl ForwardLayer {
         Ok(ForwardLayer { rows })
     }
 
-    /// The layer of records in the order of their types and entities.
-    pub fn of_rows(rows: Vec<(RecordKey, ForwardItems)>) -> ForwardLayer
-        requires { T (is_sorted record_cmp rows.items) }
-        ensures { result ≡ finite.from_sorted rows.items }
-    {
-        ForwardLayer { rows }
-    }
-
     /// The number of its records.
     pub fn entries(&self) -> u64
         ensures entries { result ≡ finite.len self.now }
@@ -102,15 +96,28 @@ impl ForwardLayer {
         self.rows.len() as u64
     }
 
-    /// Adds copies of its records to a log of changes, in which nothing stands for an empty one.
-    pub fn log_changes(
+    // Adds the keys of its records to a list.
+    pub(crate) fn note_keys(&self, keys: &mut Vec<(RecordKey, ())>) -> Result<(), AllocError>
+        ensures { OnOk result (keys.new.items ≡ keys.old.items ++ map bare (finite.entries self.now)) }
+    {
+        note_rows(keys, &self.rows)
+    }
+
+    // Puts the records that the first layers of a stack stand for, of which this is the oldest one.
+    // The changed keys are those at which the newer ones of them have records.
+    pub(crate) fn combined(
         &self,
         alloc: Global,
-        log: &mut Vec<(RecordKey, Option<ForwardItems>)>,
-    ) -> Result<(), AllocError>
-        ensures { OnOk result (log.new.items ≡ log.old.items ++ map replacing (finite.entries self.now)) }
+        stack: &ForwardStack,
+        count: usize,
+        changed: &[(RecordKey, ())],
+    ) -> Result<ForwardDelta, AllocError>
+        requires oldest { slice_get stack.now.0 0 ≡ Some self.now }
+        requires count { (0 < count) × (count ≤ length stack.now.0) }
+        requires changed { AreChanged (drop 1 (take count stack.now.0)) changed.now }
+        ensures { IfOk result (λ delta. delta ≡ records_of (take count stack.now.0)) }
     {
-        log_rows(alloc, log, &self.rows)
+        combined(alloc, stack, count, changed, &self.rows)
     }
 
     // Its record, which may be empty. None exactly where it says nothing of the record.
@@ -121,22 +128,23 @@ impl ForwardLayer {
     }
 }
 
-fn log_rows(
-    alloc: Global,
-    log: &mut Vec<(RecordKey, Option<ForwardItems>)>,
+fn note_rows(
+    keys: &mut Vec<(RecordKey, ())>,
     rows: &[(RecordKey, ForwardItems)],
 ) -> Result<(), AllocError>
-    ensures { OnOk result (log.new.items ≡ log.old.items ++ map replacing rows.now) }
+    ensures { OnOk result (keys.new.items ≡ keys.old.items ++ map bare rows.now) }
 {
-    for (key, items) in rows {
-        let left = left_by(alloc, items.as_slice())?;
-        log.push((*key, left))?;
+    for (key, _items) in rows {
+        keys.push((*key, ()))?;
     }
     Ok(())
 }
 
 // A copy of a record that is not empty.
-fn left_by(alloc: Global, items: &[ForwardItem]) -> Result<Option<ForwardItems>, AllocError>
+pub(crate) fn left_by(
+    alloc: Global,
+    items: &[ForwardItem],
+) -> Result<Option<ForwardItems>, AllocError>
     ensures { IfOk result (λ left. left ≡ left_by items.now) }
 {
     if items.is_empty() {

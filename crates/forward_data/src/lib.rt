@@ -2,6 +2,7 @@
 //! of layers of which the newest record counts.
 #![tactic(auto)]
 
+mod combine;
 mod layer;
 mod record;
 mod stack;

@@ -1,9 +1,10 @@
-ghost use Rattle.std.specs.Prelude.{◌≡◌, ◌+◌, ◌≤◌, ◌<◌, ◌++◌, ◌∷◌, [], length, Some, IfOk};
+ghost use Rattle.std.specs.Prelude.{◌≡◌, ◌+◌, ◌≤◌, ◌<◌, ◌++◌, ◌∷◌, [], length, take, Some, IfOk};
 ghost use Rattle.std.specs.List.{slice_get};
 ghost use Rattle.std.specs.Option.{option_map, unwrap_or};
-ghost use Rattle.forward_data.specs.Records.{record_key, record_of};
+ghost use Rattle.forward_data.specs.Records.{record_key, record_of, records_of};
 
-use crate::{ForwardItem, ForwardItems, ForwardLayer, RecordKey};
+use crate::combine::changed_keys;
+use crate::{ForwardDelta, ForwardItem, ForwardItems, ForwardLayer, RecordKey};
 use layer_base::SharedLayers;
 use std::alloc::{AllocError, Global};
 use std::marker::Model;
@@ -77,11 +78,32 @@ impl ForwardStack {
         ensures { result.now ≡ record_of (record_key type_no id) self.now.0 }
     {
         let key = RecordKey { type_no, id };
+        self.front_lookup(self.layers(), &key)
+    }
+
+    // The newest record in the first `count` layers, empty where there is none.
+    pub(crate) fn front_lookup(&self, count: usize, key: &RecordKey) -> &[ForwardItem]
+        requires { count ≤ length self.now.0 }
+        ensures { result.now ≡ record_of key.now (take count self.now.0) }
+    {
         let mut newest: &[ForwardItem] = &[];
-        for i in 0..self.layers() {
-            newest = newer(newest, self.layer(i).record(&key));
+        for i in 0..count {
+            newest = newer(newest, self.layer(i).record(key));
         }
         newest
+    }
+
+    /// The first `count` layers, the oldest ones, as one layer without empty records.
+    pub fn combined(&self, alloc: Global, count: usize) -> Result<ForwardLayer, AllocError>
+        requires { count ≤ length self.now.0 }
+        ensures { IfOk result (λ layer. layer ≡ records_of (take count self.now.0)) }
+    {
+        if count == 0 {
+            return ForwardLayer::build(ForwardDelta::new(alloc));
+        }
+        let changed = changed_keys(alloc, self, count)?;
+        let delta = self.layer(0).combined(alloc, self, count, &changed)?;
+        ForwardLayer::build(delta)
     }
 }
 

@@ -2,7 +2,6 @@ ghost use Rattle.std.specs.Prelude.{◌≡◌, ◌≤◌, ◌∷◌, length, tak
 ghost use Rattle.forward_data.specs.Records.{records_of, AreFull};
 
 use forward_data::{ForwardLayer, ForwardStack};
-use layer_base::rows_left;
 use std::alloc::{AllocError, Global};
 
 /// The first `count` layers of a stack of records, the oldest ones, as one layer without empty
@@ -17,10 +16,5 @@ pub fn merge_forward(
     ensures full { IfOk result AreFull }
     ensures same { IfOk result (λ layer. records_of (layer ∷ drop count stack.now.0) ≡ records_of stack.now.0) }
 {
-    let mut log = Vec::new(alloc);
-    for i in 0..count {
-        stack.layer(i).log_changes(alloc, &mut log)?;
-    }
-    let rows = rows_left(alloc, log)?;
-    Ok(ForwardLayer::of_rows(rows))
+    stack.combined(alloc, count)
 }

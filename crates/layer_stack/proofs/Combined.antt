@@ -34,7 +34,7 @@ use Rattle.layer_stack.specs.Postings.{PostingTable, PostingChanges, no_changes,
 use Rattle.layer_stack.specs.Spans.{span_of, told}
 use Rattle.layer_stack.specs.Stacks.{entry_of, posting_at}
 use Rattle.layer_stack.specs.Words.{has_term}
-use Rattle.layer_stack.proofs.LoggedRows.{section_more}
+use Rattle.layer_stack.proofs.Sections.{section_more}
 use Rattle.layer_stack.proofs.Order.{term_total, term_apart, place_total, place_apart}
 use Rattle.layer_stack.proofs.Terms.{keyed, get-under, get-layer, sorted_keyed, posting_at-keyed}
 use Rattle.layer_stack.proofs.Under.{term_self}

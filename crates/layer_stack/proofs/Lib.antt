@@ -2,7 +2,7 @@ pub mod Grouped
 pub mod Heads
 pub mod Held
 pub mod Laid
-pub mod LoggedRows
+pub mod Sections
 pub mod Merged
 pub mod Order
 pub mod Spanned

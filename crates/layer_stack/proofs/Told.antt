@@ -23,7 +23,7 @@ use Rattle.layer_stack.specs.Places.{term_cmp, place_cmp}
 use Rattle.layer_stack.specs.Postings.{place_of}
 use Rattle.layer_stack.specs.Runs.{span_at, Adds, AreWithin}
 use Rattle.layer_stack.specs.Spans.{spanned, tagged, delete_rows}
-use Rattle.layer_stack.proofs.LoggedRows.{section_more}
+use Rattle.layer_stack.proofs.Sections.{section_more}
 use Rattle.layer_stack.proofs.Order.{term_apart}
 use Rattle.layer_stack.proofs.Under.{term_self, deleted_row}
 

@@ -2,7 +2,7 @@ use Rattle.std.proofs.Common.{rules, arith, ◌≡◌, ◌<◌, ◌+◌, ◌++�
 use Rattle.std.proofs.lemmas.Option.{slice_get_read}
 use Rattle.posting_lists.specs.Postings.{section}
 use Rattle.layer_stack.specs.Runs.{numbered}
-use Rattle.layer_stack.proofs.LoggedRows.{section_more}
+use Rattle.layer_stack.proofs.Sections.{section_more}
 use Rattle.layer_stack.proofs.Settled.{numbered_at}
 use Rattle.layer_stack.proofs.arrange.add_numbers.Goals as goal
 

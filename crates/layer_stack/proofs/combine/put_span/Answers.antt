@@ -2,7 +2,7 @@ use Rattle.std.proofs.Common.{ap, ◌∙◌, sym}
 use Rattle.posting_lists.specs.Postings.{section}
 use Rattle.layer_stack.specs.Postings.{place_of, putting, putting_list}
 use Rattle.layer_stack.proofs.Combined.{list_more}
-use Rattle.layer_stack.proofs.LoggedRows.{section_more}
+use Rattle.layer_stack.proofs.Sections.{section_more}
 use Rattle.layer_stack.proofs.combine.put_span.Goals as goal
 
 pub loop-i-preserved : goal.loop-i-preserved

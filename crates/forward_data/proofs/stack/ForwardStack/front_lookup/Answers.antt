@@ -1,16 +1,16 @@
 use Rattle.std.proofs.Common.{rules, ◌≡◌, [], refl, ap, ◌∙◌, sym}
 use Rattle.std.specs.Option.{unwrap_or}
 use Rattle.std.specs.FinMap as finite
-use Rattle.forward_data.specs.Records.{record_key, record_cmp}
+use Rattle.forward_data.specs.Records.{record_cmp}
 use Rattle.forward_data.proofs.Newest.{record_more}
-use Rattle.forward_data.proofs.stack.ForwardStack.lookup.Goals as goal
+use Rattle.forward_data.proofs.stack.ForwardStack.front_lookup.Goals as goal
 
 pub loop-i-init : goal.loop-i-init
-loop-i-init c = sym (ap (λ f. unwrap_or f []) (finite.get-empty record_cmp (record_key c.args.type_no c.args.id)))
+loop-i-init c = sym (ap (λ f. unwrap_or f []) (finite.get-empty record_cmp (c.args.key.now)))
 
 pub loop-i-preserved : goal.loop-i-preserved
 loop-i-preserved c =
-    let key = record_key c.args.type_no c.args.id in let layers = c.args.self.now.0 in
+    let key = c.args.key.now in let layers = c.args.self.now.0 in
     let layer = c.layer.result.now.value in
     let is : c.deref.result.now ≡ layer = search rules in
     let said = c.record.ensures ∙ ap (λ l. finite.get l key) is in

@@ -1,0 +1,6 @@
+use Rattle.std.proofs.Common.{◌≡◌, take}
+use Rattle.forward_data.specs.Combined.{putting_records}
+use Rattle.forward_data.proofs.combine.put_records.Given as goal
+
+abbrev pub invariant-loop-key : goal.invariant-loop-key
+invariant-loop-key l = l.delta ≡ putting_records (take l.count l.stack.0) (take l.key-index l.keys) l.initial.delta
