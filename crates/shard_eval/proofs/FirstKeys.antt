@@ -52,3 +52,13 @@ enough_hit None hits rest all whole within full = cc
 enough_hit (Some n) hits rest all whole within full =
     let exact : length (found_all hits) ≡ n = omega (arith, within, leb-true n (length hits) full, length-map hits found_of) in
     sym (ap (λ k. take k all) (sym exact) ∙ ap (take (length (found_all hits))) (sym whole) ∙ take-append_seam (found_all hits) rest)
+
+pub no_more_hits : (limit : Option ℕ) (hits : List RawHit) (all : List Found) → found_all hits ++ [] ≡ all → IsWithin (length hits) limit → found_all hits ≡ up_to limit all
+no_more_hits limit hits all whole within = over limit within
+  where
+    same : found_all hits ≡ all
+    same = sym (append-nil (found_all hits)) ∙ whole
+
+    over : (limit : Option ℕ) → IsWithin (length hits) limit → found_all hits ≡ up_to limit all
+    over None within = same
+    over (Some n) within = same ∙ sym (take_all n all (omega (arith, within, ap length same, length-map hits found_of)))

@@ -42,6 +42,10 @@ term_ranked table leaf =
     let term = term_of leaf.type_no leaf.key in
     subst IsRanked (sym (keys_of_term leaf (postings_of term table))) (postings_ranked term table)
 
+pub terms_ranked : (table : PostingTable) (leaves : List Leaf) → AreRanked (map (found_term table) leaves)
+terms_ranked table [] = All-nil (λ (fs : List Found). IsRanked (found_keys fs))
+terms_ranked table (leaf ∷ leaves) = All-cons (λ (fs : List Found). IsRanked (found_keys fs)) (found_term table leaf) (map (found_term table) leaves) (term_ranked table leaf) (terms_ranked table leaves)
+
 pub prefix_ranked : (table : PostingTable) (number : ℕ) (words : List (List ℕ)) → AreRanked (map (λ word. found_term table (leaf_of number (Word word))) words)
 prefix_ranked table number [] = All-nil (λ (fs : List Found). IsRanked (found_keys fs))
 prefix_ranked table number (word ∷ words) = All-cons (λ (fs : List Found). IsRanked (found_keys fs)) (found_term table (leaf_of number (Word word))) (map (λ w. found_term table (leaf_of number (Word w))) words) (term_ranked table (leaf_of number (Word word))) (prefix_ranked table number words)

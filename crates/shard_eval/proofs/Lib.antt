@@ -1,6 +1,7 @@
 mod FirstKeys
 mod FoundLists
 pub mod FoundRanked
+mod Groups
 mod HitKeys
 mod HitLists
 pub mod HitsWithin
@@ -13,11 +14,14 @@ mod MeantPrefixes
 pub mod MeantShards
 mod MeantTerms
 mod OperandMarks
+mod Places
 mod PostingLists
 mod Quotas
 pub mod RankedShards
+mod ReachedLists
 mod ReadOn
 pub mod ResolvedNodes
+mod Runs
 mod SmallJoins
 mod SourceLists
 pub mod TreeLineages

@@ -1,9 +1,11 @@
 pub mod Found
+pub mod Grouped
 pub mod Kept
 pub mod Laws
 pub mod Meant
 pub mod Operands
 pub mod PlanTrees
+pub mod Reached
 pub mod Resolution
 pub mod Rows
 pub mod Sizes

@@ -7,7 +7,7 @@ ghost use Rattle.shard_eval.specs.Resolution.{all_found, found, marks_of, nodes_
 ghost use Rattle.shard_eval.specs.Resolution.Resolution.{list_node};
 ghost use Rattle.shard_eval.specs.Sources.{found_by, found_lists, source_marks};
 
-use crate::joins::{joined_sources, listed_sources, prefix_sources};
+use crate::joins::{joined_hits, listed_hits, prefix_hits};
 use crate::leaf::Leaf;
 use crate::list::list_hits;
 use crate::source::Source;
@@ -34,10 +34,7 @@ pub(crate) fn eval(
             let leaf = Leaf::of(*type_no, *key);
             term_hits(alloc, stack, &leaf, limit)
         }
-        Resolved::Prefix { type_no, from } => {
-            let sources = prefix_sources(alloc, stack, *type_no, from)?;
-            list_hits(alloc, stack, ListKind::Or, sources, limit)
-        }
+        Resolved::Prefix { type_no, from } => { prefix_hits(alloc, stack, *type_no, from, limit) }
         Resolved::And(operands) => eval_list(alloc, stack, ListKind::And, operands, limit),
         Resolved::Or(operands) => eval_list(alloc, stack, ListKind::Or, operands, limit),
         Resolved::Difference(operands) => {
@@ -48,12 +45,10 @@ pub(crate) fn eval(
             eval_list(alloc, stack, ListKind::StrongOr, operands, limit)
         }
         Resolved::Joined { type_no, inner } => {
-            let sources = joined_sources(alloc, *type_no, inner.as_slice())?;
-            list_hits(alloc, stack, ListKind::Or, sources, limit)
+            joined_hits(alloc, stack, *type_no, inner.as_slice(), limit)
         }
         Resolved::Listed { type_no, inner } => {
-            let sources = listed_sources(alloc, *type_no, inner.as_slice())?;
-            list_hits(alloc, stack, ListKind::Or, sources, limit)
+            listed_hits(alloc, *type_no, inner.as_slice(), limit)
         }
     }
 }

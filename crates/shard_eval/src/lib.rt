@@ -2,12 +2,14 @@
 #![tactic(auto)]
 
 mod eval;
+mod grouped;
 mod joins;
 mod kept;
 pub mod laws;
 mod leaf;
 mod list;
 mod operand;
+mod reached;
 mod resolved;
 mod shard;
 mod source;

@@ -1,5 +1,5 @@
 //! Hits by the postings of one term.
-ghost use Rattle.std.specs.Prelude.{◌≡◌, IfOk, map};
+ghost use Rattle.std.specs.Prelude.{◌≡◌, IfOk};
 ghost use Rattle.layer_base.specs.Layers.{stack_table};
 ghost use Rattle.shard_eval.specs.Found.{found_all, found_of, found_posting, found_term};
 ghost use Rattle.shard_eval.specs.Kept.{up_to};
@@ -39,19 +39,4 @@ fn posting_hit(alloc: Global, leaf: &Leaf, posting: Posting) -> Result<RawHit, A
     let key = posting.key;
     let lineage = leaf.tree(alloc, posting)?;
     Ok(RawHit { key, lineage })
-}
-
-/// Postings as hits.
-pub(crate) fn posting_hits(
-    alloc: Global,
-    leaf: &Leaf,
-    rows: &[Posting],
-) -> Result<HitRows, AllocError>
-    ensures { IfOk result (λ hits. found_all hits ≡ map (found_posting leaf.now) rows.now) }
-{
-    let mut hits = HitRows::new(alloc);
-    for posting in rows {
-        hits.push(posting_hit(alloc, leaf, *posting)?)?;
-    }
-    Ok(hits)
 }

@@ -13,24 +13,11 @@ use Rattle.shard_eval.proofs.FoundRanked.{all_ranked, joined_ranked, listed_rank
 use Rattle.shard_eval.proofs.ResolvedNodes.{all_append, marks_append, operand_is, ready_at, seen_listed, size, sizes, smaller_at}
 use Rattle.shard_eval.proofs.eval.+eval.Goals as goal
 
-pub eval-list_hits-requires-clause-ranked : goal.eval-list_hits-requires-clause-ranked
-eval-list_hits-requires-clause-ranked t c =
-    let table = stack_table c.args.stack.now.0 in
-    subst AreRanked (sym (c.in_ok-sources-in-Prefix.ensures {u = tt}).lists) (prefix_ranked table c.in-Prefix.type_no _)
-
-pub eval-list_hits-requires-in-Joined-clause-ranked : goal.eval-list_hits-requires-in-Joined-clause-ranked
-eval-list_hits-requires-in-Joined-clause-ranked t c =
-    let table = stack_table c.args.stack.now.0 in
-    subst AreRanked (sym ((c.in_ok-sources-in-Joined.ensures {u = tt}).lists table)) (joined_ranked table c.in-Joined.type_no _)
-
-pub eval-list_hits-requires-in-Listed-clause-ranked : goal.eval-list_hits-requires-in-Listed-clause-ranked
-eval-list_hits-requires-in-Listed-clause-ranked t c =
-    let table = stack_table c.args.stack.now.0 in
+pub eval-listed_hits-requires : goal.eval-listed_hits-requires
+eval-listed_hits-requires t c =
     let number = c.in-Listed.type_no in
     let ready : IsReady (listed_node number (map listing_of c.in-Listed.inner.items)) = subst IsReady (ap resolution c.in-Listed.is ∙ seen_listed number c.in-Listed.inner) c.requires in
-    subst AreRanked (sym ((c.in_ok-sources-in-Listed.ensures {u = tt}).lists table))
-    (subst (λ (hits : List ListedHit). AreRanked (map (found_listing number) (map listing_of hits))) (sym c.as_slice-in-Listed.ensures.value)
-    (listed_ranked number (map listing_of c.in-Listed.inner.items) ready))
+    subst (λ (hits : List ListedHit). IsReady (listed_node number (map listing_of hits))) (sym c.as_slice-in-Listed.ensures.value) ready
 
 pub eval_list-list_hits-requires-clause-shares : goal.eval_list-list_hits-requires-clause-shares
 eval_list-list_hits-requires-clause-shares t c =
