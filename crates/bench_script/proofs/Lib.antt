@@ -1,2 +1,2 @@
 mod Drawing
-mod Joined
+pub mod Joined

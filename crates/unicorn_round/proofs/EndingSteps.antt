@@ -2,7 +2,6 @@
 use Rattle.std.proofs.Common.{◌≡◌, ◌≤◌, ◌++◌, ℕ, Bool, List, filter, map, sym, ap, ◌∙◌, subst}
 use Rattle.uni_schema.specs.Schema.{Declarations}
 use Rattle.reply_text.specs.declared.answer.Answer.{Answer}
-use Rattle.reply_text.specs.Printed.{answers_text}
 use Rattle.script_rounds.specs.declared.item.Item.{Item}
 use Rattle.unicorn_round.specs.declared.parts.Parts.{Parts}
 use Rattle.unicorn_round.specs.declared.round.RoundAnswers.{RoundAnswers}
@@ -26,17 +25,17 @@ module _ (schema : Declarations) (old mid : List StackCover) (items : List Item)
   pub all_are : (made : ℕ) (untidied : List StackName) (new : List StackCover) → new ≡ map (tidy made untidied) mid → AreStacks schema new
   all_are made untidied new after = subst (AreStacks schema) (sym after) (tidied_are schema made untidied mid mid_are)
 
-pub is_ended : (schema under : Declarations) (made number : ℕ) (old mid new : List StackCover) (parts : Parts) (answers : RoundAnswers) (text : List ℕ) (missed untidied : List StackName) (tidied : List Answer) (items : List Item) (told : List Answer)
-    → under ≡ schema → number ≡ made → items ≡ parts.compactions → told ≡ answers.compacted → mid ≡ compacted_covers old items told
+pub is_ended : (made number : ℕ) (old mid new : List StackCover) (parts : Parts) (answers : RoundAnswers) (said : List Answer) (missed untidied : List StackName) (tidied : List Answer) (items : List Item) (told : List Answer)
+    → number ≡ made → items ≡ parts.compactions → told ≡ answers.compacted → mid ≡ compacted_covers old items told
     → untidied ≡ due_untidied number missed mid → tidied ≡ tidy_answers number untidied mid → new ≡ map (tidy number untidied) mid
-    → text ≡ answers_text under (merged (shown_by number new) parts.slots.items answers.fed (answers_at answers.asked.items) answers.compacted ++ tidied)
-    → IsEnded schema made old new parts answers text
-is_ended schema under made number old mid new parts answers text missed untidied tidied items told same counted its ans is left tells after writes =
+    → said ≡ merged (shown_by number new) parts.slots.items answers.fed (answers_at answers.asked.items) answers.compacted ++ tidied
+    → IsEnded made old new parts answers said
+is_ended made number old mid new parts answers said missed untidied tidied items told counted its ans is left tells after says =
     let between : mid ≡ covers_between old parts answers = is ∙ (λ i. compacted_covers old (its i) (ans i)) in
     let tidies : tidied ≡ tidy_answers made untidied (covers_between old parts answers) = tells ∙ (λ i. tidy_answers (counted i) untidied (between i)) in
     record {
       untidied = untidied;
       due = left ∙ sym (due_again number missed mid) ∙ ap (λ us. due_untidied number us mid) (sym left) ∙ (λ i. due_untidied (counted i) untidied (between i));
       covers = after ∙ (λ i. map (tidy (counted i) untidied) (between i));
-      writes = writes ∙ (λ i. answers_text (same i) (merged (shown_by (counted i) new) parts.slots.items answers.fed (answers_at answers.asked.items) answers.compacted ++ tidies i));
+      says = says ∙ (λ i. merged (shown_by (counted i) new) parts.slots.items answers.fed (answers_at answers.asked.items) answers.compacted ++ tidies i);
     }

@@ -1,7 +1,10 @@
 mod AskedPlaces
+mod Benched
 mod Bounded
 mod CheckSteps
 mod Complete
+mod Counted
+mod Counting
 mod Elements
 mod EndingSteps
 mod FedAnswers

@@ -3,12 +3,9 @@ use Rattle.std.proofs.Common.{◌≡◌, ◌<◌, ◌≤◌, ◌==◌, ◌≢◌
 use Rattle.std.proofs.lemmas.Bool.Decides.{nat_tests}
 use Rattle.std.proofs.lemmas.List.{get_or-map, get_or-set_other, length-map, map-set}
 use Rattle.std.proofs.lemmas.Grind.{get_or-set_at}
-use Rattle.uni_schema.specs.Schema.{Declarations}
 use Rattle.reply_text.specs.declared.answer.Answer.{Answer}
-use Rattle.reply_text.specs.Printed.{answers_text}
 use Rattle.unicorn_round.specs.Queues.{answers_at}
 use Rattle.unicorn_round.specs.Weaving.{popped}
-use Rattle.unicorn_round.proofs.Texts.{answers_text-append}
 
 -- where the list at a place has lost its first answer, all others are as they were
 popped_at : (lists news : List (List Answer)) (place other : ℕ) → place < length lists → news ≡ set lists place (drop 1 (answers_at lists place)) → answers_at news other ≡ popped place (answers_at lists) other
@@ -33,8 +30,6 @@ popped_queue items queues place other queue left below is rest =
     popped_at (map items queues) (map items (set queues place left)) place other (omega (arith, below, length-map queues items))
     (map-set items queues place left ∙ ap (λ l. set (map items queues) place l) (rest ∙ ap (λ q. drop 1 (items q)) is ∙ ap (drop 1) (sym (get_or-map items queues place queue [] below))))
 
--- a text with one answer more, and with those that are left
-pub text_more : (schema : Declarations) (text out : List ℕ) (more xs ys : List Answer) → out ≡ text ++ answers_text schema more → more ++ xs ≡ ys → out ++ answers_text schema xs ≡ text ++ answers_text schema ys
-text_more schema text out more xs ys added left =
-    ap (λ t. t ++ answers_text schema xs) added ∙ append_assoc text (answers_text schema more) (answers_text schema xs)
-    ∙ ap (λ t. text ++ t) (sym (answers_text-append schema more xs) ∙ ap (answers_text schema) left)
+-- answers with some more, and with those that are left
+pub answers_more : (told out more xs ys : List Answer) → out ≡ told ++ more → more ++ xs ≡ ys → out ++ xs ≡ told ++ ys
+answers_more told out more xs ys added left = ap (λ t. t ++ xs) added ∙ append_assoc told more xs ∙ ap (λ t. told ++ t) left

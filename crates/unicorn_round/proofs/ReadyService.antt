@@ -145,6 +145,10 @@ opened service limits schema settings standard feeder journal batch table turns 
         count = sessions.long ∙ sym (ap (λ (t : Terms). t.limits.sessions) terms);
         stacks = subst (λ (s : SettingsState). AreStacks s.schema service.stacks) (sym settings) are;
       };
-      stands = subst (λ (t : Terms). IsServed t [] (feed_of service.feeder) service.stacks []) (sym terms)
-          (subst (λ f. IsServed (under limits schema) [] f service.stacks []) (sym feed) (subst (λ covers. IsServed (under limits schema) [] opening_feed covers []) (sym opening) (served_nothing (under limits schema))));
+      stands = record {
+        said = [];
+        served = subst (λ (t : Terms). IsServed t [] (feed_of service.feeder) service.stacks []) (sym terms)
+            (subst (λ f. IsServed (under limits schema) [] f service.stacks []) (sym feed) (subst (λ covers. IsServed (under limits schema) [] opening_feed covers []) (sym opening) (served_nothing (under limits schema))));
+        writes = refl;
+      };
     }

@@ -2,7 +2,6 @@
 use Rattle.std.proofs.Common.{◌≡◌, ◌≤◌, ◌<◌, ◌+◌, ◌++◌, ◌∷◌, [], ℕ, zero, suc, List, Bool, length, map, get_or, refl, sym, ap, ◌∙◌, subst, arith}
 use mathlib.Core.Logic.{inl, inr, ◌⊎◌}
 use Rattle.reply_text.specs.declared.answer.Answer.{Answer}
-use Rattle.reply_text.specs.Printed.{answers_text}
 use Rattle.script_rounds.specs.Entries.{AreItemsOf, Entry}
 use Rattle.script_rounds.specs.Fits.{ItemsFit}
 use Rattle.script_rounds.specs.RoundReads.{Rise, item_line}
@@ -42,14 +41,14 @@ past [] place d under = refl
 past (x ∷ xs) zero d under = absurd (omega (arith, under))
 past (x ∷ xs) (suc place) d under = past xs place d (omega (arith, under))
 
-pub served_round : (catalogue : Catalogue) (parts : Parts) (answers : RoundAnswers) (old new : Feeder) (covers after_covers : List StackCover) (entries : List Entry) (items : List Item) (rounds : List (List Entry)) (before text : List ℕ) (from to : ℕ)
+pub served_round : (catalogue : Catalogue) (parts : Parts) (answers : RoundAnswers) (old new : Feeder) (covers after_covers : List StackCover) (entries : List Entry) (items : List Item) (rounds : List (List Entry)) (before said : List Answer) (from to : ℕ)
     → AreItemsOf entries items → ItemsFit (terms_of catalogue) items → Rise from to (map item_line items)
     → IsParted (terms_of catalogue).limits.sessions items parts → AreAnswered catalogue parts old new answers → length (feeder_journal old) ≤ length (feeder_journal new)
-    → IsEnded (terms_of catalogue).schema (length (feeder_journal new)) covers after_covers parts answers text
+    → IsEnded (length (feeder_journal new)) covers after_covers parts answers said
     → IsServed (terms_of catalogue) rounds (feed_of old) covers before
-    → IsServed (terms_of catalogue) (rounds ++ entries ∷ []) (feed_of new) after_covers (before ++ text)
-served_round catalogue parts answers old new covers after_covers entries items rounds before text from to of fit rise parted answered longer ended served =
-    served_more terms rounds entries items lacks answers.fed asked answers.compacted (feed_of old) (feed_of new) covers after_covers ended.untidied before text served
+    → IsServed (terms_of catalogue) (rounds ++ entries ∷ []) (feed_of new) after_covers (before ++ said)
+served_round catalogue parts answers old new covers after_covers entries items rounds before said from to of fit rise parted answered longer ended served =
+    served_more terms rounds entries items lacks answers.fed asked answers.compacted (feed_of old) (feed_of new) covers after_covers ended.untidied before said served
     (woven terms s end entries items lacks answers.fed asked answers.compacted (made (feed_of old)) from to of fit rise
     (answered.fed.one_each ∙ ap (λ its. length (feed_entries its)) parted.feed)
     (answered.fed.answered ∙ ap (λ its. given (fed_one terms) (fed_answers terms) (feed_of old) (feed_entries its) lacks) parted.feed)
@@ -59,8 +58,8 @@ served_round catalogue parts answers old new covers after_covers entries items r
     (answered.fed.after ∙ ap (λ its. after (fed_one terms) (feed_of old) (feed_entries its) lacks) parted.feed)
     (ended.due ∙ ap (λ its. due_untidied (made (feed_of new)) ended.untidied (compacted_covers covers its answers.compacted)) parted.compactions)
     (ended.covers ∙ ap (λ its. map (tidy (made (feed_of new)) ended.untidied) (compacted_covers covers its answers.compacted)) parted.compactions)
-    (ended.writes
-    ∙ (λ i. answers_text terms.schema (merged (shown_by (made (feed_of new)) after_covers) (parted.slots i) answers.fed asked answers.compacted ++ tidy_answers (made (feed_of new)) ended.untidied (compacted_covers covers (parted.compactions i) answers.compacted))))
+    (ended.says
+    ∙ (λ i. merged (shown_by (made (feed_of new)) after_covers) (parted.slots i) answers.fed asked answers.compacted ++ tidy_answers (made (feed_of new)) ended.untidied (compacted_covers covers (parted.compactions i) answers.compacted)))
   where
     terms : Terms
     terms = terms_of catalogue

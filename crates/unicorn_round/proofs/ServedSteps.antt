@@ -1,7 +1,6 @@
 -- Serving, round by round.
 use Rattle.std.proofs.Common.{◌≡◌, ◌≤◌, ℕ, Bool, List, [], ◌∷◌, ◌++◌, length, map, refl, ap, sym, ◌∙◌, subst, arith, append-nil, append_assoc}
 use Rattle.reply_text.specs.declared.answer.Answer.{Answer}
-use Rattle.reply_text.specs.Printed.{answers_text}
 use Rattle.script_rounds.specs.declared.item.Item.{Item}
 use Rattle.script_rounds.specs.Entries.{Entry}
 use Rattle.script_rounds.specs.Terms.{Terms}
@@ -18,7 +17,6 @@ use Rattle.unicorn_round.specs.Stacks.{opening_stacks, due_untidied, tidy, tidy_
 use Rattle.unicorn_round.specs.Weaving.{compactions, compacted_covers, feed_items, merged, shown_at, slot_of}
 use Rattle.round_feed.proofs.Steps.{after-snoc, given-snoc, each-length, each-snoc}
 use Rattle.unicorn_round.proofs.PlainLegal.{between_append}
-use Rattle.unicorn_round.proofs.Texts.{answers_text-append}
 use Rattle.unicorn_round.proofs.Weaving.{Woven}
 
 -- nothing was served yet
@@ -30,7 +28,7 @@ served_nothing terms = record {
   sessions = λ session. none;
   stacks = λ vertical shard replica. none;
   stands = refl;
-  writes = refl;
+  says = refl;
 }
   where
     none : 0 ≤ 0
@@ -48,16 +46,16 @@ all_numbers-snoc test (round ∷ rounds) (t ∷ told) entries one same =
 
 -- one round more
 pub served_more : (terms : Terms) (rounds : List (List Entry)) (entries : List Entry) (items : List Item) (lacks : List Bool) (fed : List Answer) (asked : ℕ → List Answer) (compacted : List Answer)
-    (feed feed_after : Feed) (covers covers_after : List StackCover) (untidied : List StackName) (text more : List ℕ)
-    → IsServed terms rounds feed covers text
+    (feed feed_after : Feed) (covers covers_after : List StackCover) (untidied : List StackName) (said more : List Answer)
+    → IsServed terms rounds feed covers said
     → Woven terms (record { feed = feed; covers = covers }) entries items lacks fed asked compacted (made feed) (record { feed = feed_after; covers = covers_after })
     → feed_after ≡ after (fed_one terms) feed (feed_entries (feed_items items)) lacks
     → untidied ≡ due_untidied (made feed_after) untidied (compacted_covers covers (compactions items) compacted)
     → covers_after ≡ map (tidy (made feed_after) untidied) (compacted_covers covers (compactions items) compacted)
-    → more ≡ answers_text terms.schema (merged (shown_at (record { feed = feed_after; covers = covers_after })) (map slot_of items) fed asked compacted
-    ++ tidy_answers (made feed_after) untidied (compacted_covers covers (compactions items) compacted))
-    → IsServed terms (rounds ++ entries ∷ []) feed_after covers_after (text ++ more)
-served_more terms rounds entries items lacks fed asked compacted feed feed_after covers covers_after untidied text more s w fed_is untidied_is covers_are writes = record {
+    → more ≡ merged (shown_at (record { feed = feed_after; covers = covers_after })) (map slot_of items) fed asked compacted
+    ++ tidy_answers (made feed_after) untidied (compacted_covers covers (compactions items) compacted)
+    → IsServed terms (rounds ++ entries ∷ []) feed_after covers_after (said ++ more)
+served_more terms rounds entries items lacks fed asked compacted feed feed_after covers covers_after untidied said more s w fed_is untidied_is covers_are says = record {
   told = s.told ++ one ∷ [];
   is_record = each-snoc (after_round terms) (IsRoundRecord terms) (opening_standing terms) rounds s.told entries one s.is_record
       (subst (λ now. IsRoundRecord terms now entries one) (sym s.stands) (record {
@@ -72,12 +70,11 @@ served_more terms rounds entries items lacks fed asked compacted feed feed_after
       after-snoc (after_round terms) (opening_standing terms) rounds s.told entries one each
       ∙ ap (λ now. after_round terms now entries one) s.stands
       ∙ ended_is;
-  writes =
-      ap (λ t. t ++ more) s.writes
-      ∙ ap (λ t. answers_text terms.schema (answers terms rounds s.told) ++ t) (writes ∙ ap (answers_text terms.schema) round_is)
-      ∙ sym (answers_text-append terms.schema (answers terms rounds s.told) (round_answers terms (replies terms.schema) start entries one))
-      ∙ ap (λ now. answers_text terms.schema (answers terms rounds s.told ++ round_answers terms (replies terms.schema) now entries one)) (sym s.stands)
-      ∙ ap (answers_text terms.schema) (sym (given-snoc (after_round terms) (round_answers terms (replies terms.schema)) (opening_standing terms) rounds s.told entries one each));
+  says =
+      ap (λ t. t ++ more) s.says
+      ∙ ap (λ t. answers terms rounds s.told ++ t) (says ∙ round_is)
+      ∙ ap (λ now. answers terms rounds s.told ++ round_answers terms (replies terms.schema) now entries one) (sym s.stands)
+      ∙ sym (given-snoc (after_round terms) (round_answers terms (replies terms.schema)) (opening_standing terms) rounds s.told entries one each);
 }
   where
     start : Standing

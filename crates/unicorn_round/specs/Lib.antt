@@ -1,9 +1,12 @@
 pub mod Answerer
 pub mod Answers
+pub mod Bench
+pub mod BenchLaws
 pub mod CheckLaws
 pub mod CheckState
 pub mod Checking
 pub mod Completeness
+pub mod Counts
 pub mod Ending
 pub mod Example
 pub mod Headers

@@ -4,7 +4,7 @@ use Rattle.uni_base.specs.declared.limits.Limits.{Limits}
 use Rattle.uni_schema.specs.Schema.{Declarations}
 use Rattle.script_rounds.specs.Entries.{Entry}
 use Rattle.script_rounds.specs.Lines.{lines_of}
-use Rattle.script_rounds.specs.Reading.{Gave, NoneLeft}
+use Rattle.script_rounds.specs.Reading.{Gave, IsSpent, NoneLeft}
 use Rattle.script_rounds.specs.Rounds.{opened, script_of, closed_script_of}
 use Rattle.script_rounds.specs.RoundsState.{RoundsState, rounds_ahead, closed_ahead, lines_in_all}
 use Rattle.script_rounds.specs.Terms.{Terms, under}
@@ -34,6 +34,14 @@ pub record Ongoing (limits : Limits) (terms : Terms) (answered : List (List Entr
   pub read : HasRead limits state schema left_before left_now rounds
   pub stands : answered rounds text
   pub took : Took taken_before text taken_now
+
+-- a script was read to its end, all its rounds were answered, and the sink took the text
+pub record ScriptAnswered {A : Type 0} (limits : Limits) (terms : A → Terms) (behind : A → List (List Entry) → List ℕ → Type 0)
+    (left_before left_now taken_before taken_now : Option (List ℕ)) (answering : A) (lines : ℕ) : Type 0 where
+  pub state : RoundsState
+  pub ongoing : Ongoing limits (terms answering) (behind answering) state left_before left_now taken_before taken_now
+  pub spent : IsSpent state.reader
+  pub counted : lines ≡ state.reader.lines
 
 -- what answers may go on, where at most twice as many lines count as were read
 pub record GoesOn (goes : ℕ → Type 0) (read : ℕ) : Type 0 where

@@ -1,5 +1,5 @@
 -- What a service keeps from round to round.
-use Rattle.std.specs.Prelude.{ℕ, ◌≡◌, ◌+◌, ◌*◌, ◌≤◌, List, length}
+use Rattle.std.specs.Prelude.{ℕ, ◌≡◌, ◌+◌, ◌*◌, ◌≤◌, ◌++◌, ◌∷◌, [], List, length}
 use Rattle.std.specs.List.{AllByRecursion}
 use Rattle.uni_base.specs.StandardLimits.{IsWithinStandard}
 use Rattle.turn_lock.specs.Seats.{SeatRests, seat_turns}
@@ -8,7 +8,10 @@ use Rattle.version_catalog.specs.Seats.{IsCompactorOf, IsFeederOf, IsSessionOf, 
 use Rattle.version_catalog.specs.declared.catalogue.Catalogue.{Catalogue}
 use Rattle.version_catalog.specs.declared.entry.Entry.{Entry}
 use Rattle.version_catalog.specs.declared.state.CatalogueState.{CatalogueState}
-use Rattle.script_rounds.specs.Entries.{Entry as ScriptEntry}
+use Rattle.reply_text.specs.declared.answer.Answer.{Answer}
+use Rattle.reply_text.specs.Printed.{answers_text}
+use Rattle.script_rounds.specs.Entries.{AreItemsOf, Entry as ScriptEntry}
+use Rattle.script_rounds.specs.declared.item.Item.{Item}
 use Rattle.script_rounds.specs.Terms.{Terms}
 use Rattle.round_feed.specs.Seats.{feed_of, terms_of}
 use Rattle.unicorn_round.specs.SchemaStacks.{AreStacks}
@@ -44,6 +47,18 @@ pub record IsReady (service : Service) (n : ℕ) : Type 0 where
 abbrev pub service_terms : Service → Terms
 service_terms service = terms_of service.catalogue
 
--- it stands behind rounds, which a text answers
-abbrev pub ServiceStands : Service → List (List ScriptEntry) → List ℕ → Type 0
-ServiceStands service rounds text = IsServed (terms_of service.catalogue) rounds (feed_of service.feeder) service.stacks text
+-- it stands behind rounds, which are answered so
+abbrev pub HasServed : Service → List (List ScriptEntry) → List Answer → Type 0
+HasServed service rounds said = IsServed (terms_of service.catalogue) rounds (feed_of service.feeder) service.stacks said
+
+-- it stands behind rounds, and a text is that of their answers
+pub record ServiceStands (service : Service) (rounds : List (List ScriptEntry)) (text : List ℕ) : Type 0 where
+  pub said : List Answer
+  pub served : HasServed service rounds said
+  pub writes : text ≡ answers_text (terms_of service.catalogue).schema said
+
+-- it has answered one round more
+pub record ServesMore (old : Service) (items : List Item) (new : Service) (said : List Answer) : Type 0 where
+  pub is_under : service_terms new ≡ service_terms old
+  pub ready : (lines : ℕ) → IsReady old lines → IsReady new (lines + length items + 1)
+  pub stands : (entries : List ScriptEntry) (rounds : List (List ScriptEntry)) (before : List Answer) → AreItemsOf entries items → HasServed old rounds before → HasServed new (rounds ++ entries ∷ []) (before ++ said)

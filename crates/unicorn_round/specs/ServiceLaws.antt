@@ -8,4 +8,4 @@ use Rattle.unicorn_round.specs.Service.{ServiceStands, service_terms}
 use Rattle.unicorn_round.specs.declared.service.Service.{Service}
 
 pub service_claims : (service : Service) (rounds : List (List Entry)) (text : List ℕ) → ServiceStands service rounds text → Serves (service_terms service) rounds text
-service_claims service rounds text served = served_claims (service_terms service) rounds (feed_of service.feeder) service.stacks text served
+service_claims service rounds text s = served_claims (service_terms service) rounds (feed_of service.feeder) service.stacks s.said text s.served s.writes

@@ -1,4 +1,5 @@
 //! Laws about definitions, each the contract of a function that does nothing of its own.
+ghost use Rattle.unicorn_round.specs.Counts.{CountsAgree};
 ghost use Rattle.unicorn_round.specs.Laws.{AnswersTell, PlainMayServe, RoundsMakeJournals};
 
 /// Equal answers are those of equal records, and so are answers of one text.
@@ -23,4 +24,10 @@ pub fn rounds_make_journals()
 #[tactic(auto, using(crate::proofs::Served::plain_may_serve))]
 pub fn plain_may_serve()
     ensures { PlainMayServe }
+{}
+
+/// Where no round both publishes and asks, the answers come to the same counts whatever the record.
+#[tactic(auto, using(crate::proofs::Counting::counts_agree))]
+pub fn counts_agree()
+    ensures { CountsAgree }
 {}

@@ -3,6 +3,8 @@
 
 mod answering;
 mod checker;
+mod counter;
+mod counts;
 pub mod examples;
 mod header;
 pub mod laws;
@@ -19,6 +21,7 @@ mod service;
 mod slot;
 mod stacks;
 mod status;
+mod summary;
 #[cfg(test)]
 mod tests;
 mod tidy;
@@ -30,3 +33,4 @@ pub use rack_aggregate::{Gate, OpenGate, Point};
 pub use replica_pick::{Chooser, FirstChooser, TurnChooser};
 pub use stacks::StackCover;
 pub use status::Status;
+pub use summary::bench;

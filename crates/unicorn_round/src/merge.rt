@@ -89,54 +89,47 @@ impl Queues {
     }
 }
 
-/// Adds the answers of slots to a text, in order.
-pub(crate) fn write_slots(
-    alloc: Global,
-    schema: &Schema,
+/// Adds the answers of slots to those that are there, in order.
+pub(crate) fn add_slots(
     slots: Vec<Slot>,
     queues: &mut Queues,
     stacks: &Stacks,
     made: u64,
-    text: &mut Text,
+    told: &mut Vec<Answer>,
 ) -> Result<(), AllocError>
     requires { made < 2 ^ 63 }
-    ensures { OnOk result (text.new ≡ text.old ++ answers_text schema.now (merged (shown_by made stacks.now) slots.items queues.old.fed (answers_at queues.old.asked) queues.old.compacted)) }
+    ensures { OnOk result (told.new.items ≡ told.old.items ++ merged (shown_by made stacks.now) slots.items queues.old.fed (answers_at queues.old.asked) queues.old.compacted) }
 {
     for slot in slots {
         let answer = queues.next(slot, stacks, made)?;
-        add(alloc, schema, answer, text)?;
+        add(answer, told)?;
     }
     Ok(())
 }
 
-// Adds an answer to a text, if there is one.
-fn add(
-    alloc: Global,
-    schema: &Schema,
-    answer: Option<Answer>,
-    text: &mut Text,
-) -> Result<(), AllocError>
-    ensures { OnOk result (text.new ≡ text.old ++ answers_text schema.now (option_to_list answer)) }
+// Adds an answer, if there is one.
+fn add(answer: Option<Answer>, told: &mut Vec<Answer>) -> Result<(), AllocError>
+    ensures { OnOk result (told.new.items ≡ told.old.items ++ option_to_list answer) }
 {
-    match answer {
-        Some(answer) => write_answer(alloc, schema, &answer, text),
-        None => Ok(()),
+    if let Some(answer) = answer {
+        told.push(answer)?;
     }
+    Ok(())
 }
 
-/// Adds answers to a text.
-pub(crate) fn write_answers(
+/// The text of answers.
+pub(crate) fn text_of_answers(
     alloc: Global,
     schema: &Schema,
     answers: &[Answer],
-    text: &mut Text,
-) -> Result<(), AllocError>
-    ensures { OnOk result (text.new ≡ text.old ++ answers_text schema.now answers.now) }
+) -> Result<Text, AllocError>
+    ensures { IfOk result (λ text. text ≡ answers_text schema.now answers.now) }
 {
+    let mut text = Text::new(alloc);
     for answer in answers {
-        write_answer(alloc, schema, answer, text)?;
+        write_answer(alloc, schema, answer, &mut text)?;
     }
-    Ok(())
+    Ok(text)
 }
 
 // A list from its front on.

@@ -2,15 +2,15 @@ ghost use Rattle.std.specs.Prelude.{◌≡◌, false, map, true};
 ghost use Rattle.std.specs.String.{string_bytes};
 ghost use Rattle.uni_base.specs.StandardLimits.{standard_limits};
 ghost use Rattle.unicorn_round.specs.Completeness.{Completes};
-ghost use Rattle.unicorn_round.specs.Outcome.{Ran};
 ghost use Rattle.unicorn_round.specs.Statuses.{ReadFaultsFit, WriteFaultsFit};
-ghost use Rattle.unicorn_round.specs.Usage.{EndsForWords, claim_of, closing_of};
+ghost use Rattle.unicorn_round.specs.Usage.{EndsForWords, RanAs};
 ghost use Rattle.unicorn_words.specs.Asked.{AreAsked};
 ghost use Rattle.unicorn_words.specs.CommandLine.{is_taken};
 ghost use Rattle.unicorn_words.specs.declared.words.Settings.{Settings};
 
 use crate::modes::{check_script, run_plain, serve_rounds};
 use crate::status::Status;
+use crate::summary::bench;
 use crate::write::write_all;
 use rack_aggregate::Gate;
 use replica_pick::Chooser;
@@ -41,8 +41,7 @@ where
     G: Gate + Sync,
     // Words that are taken: what is written is what their mode says.
     ensures ran { is_taken (map string_bytes words.now) ≡ true → (settings : Settings) → AreAsked (map string_bytes words.now) settings
-        → Ran standard_limits (claim_of settings.mode) (closing_of settings.mode)
-        (S.left source.old) (S.left source.new) (K.taken sink.old) (K.taken sink.new) result }
+        → RanAs settings.mode settings.seed settings.people (S.left source.old) (S.left source.new) (K.taken sink.old) (K.taken sink.new) result }
 
     // Other words: the usage line, and nothing is read.
     ensures usage { result ≡ Status.Usage → is_taken (map string_bytes words.now) ≡ false }
@@ -79,6 +78,16 @@ where
         ),
         Mode::Plain => run_plain(alloc, limits, source, sink),
         Mode::Check => check_script(alloc, limits, source, sink),
+        Mode::Bench => bench(
+            rt,
+            alloc,
+            settings.seed,
+            settings.people,
+            settings.workers,
+            sink,
+            chooser,
+            gate,
+        ),
     }
 }
 

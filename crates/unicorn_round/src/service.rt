@@ -5,16 +5,18 @@ ghost use Rattle.std.specs.Arc.{arc_value};
 ghost use Rattle.script_rounds.specs.Terms.{under};
 ghost use Rattle.uni_base.specs.StandardLimits.{IsWithinStandard};
 ghost use Rattle.unicorn_round.specs.Answerer.{HasAnswered, IsOpened, MayAnswer};
-ghost use Rattle.unicorn_round.specs.Service.{AreNew, IsReady, ServiceStands, service_terms};
+ghost use Rattle.unicorn_round.specs.Service.{AreNew, IsReady, ServesMore, ServiceStands, service_terms};
 ghost use Rattle.version_catalog.specs.Seats.{IsFeederOf, feeder_batch, feeder_journal, feeder_sessions, feeder_table, feeder_turns};
 
 use crate::answering::Answering;
+use crate::merge::text_of_answers;
 use crate::parts::Parts;
 use crate::round::run_round;
 use crate::stacks::Stacks;
 use crate::tidy::end_round;
 use rack_aggregate::Gate;
 use replica_pick::Chooser;
+use reply_text::AnswerList;
 use script_rounds::ItemList;
 use std::alloc::{AllocError, Global};
 use std::sync::{Arc, Wait};
@@ -71,6 +73,25 @@ impl Service {
         requires may { MayAnswer service_terms IsReady ServiceStands self items }
         ensures { IfOk result (λ t. HasAnswered service_terms IsReady ServiceStands self items t.0 t.1) }
     {
+        let alloc = self.alloc;
+        let (service, said) = self.answer(rt, items, workers, chooser, gate)?;
+        let text = text_of_answers(alloc, service.feeder.table().schema(), said.as_slice())?;
+        Ok((service, text))
+    }
+
+    /// Serves a round: the service after it, and its answers.
+    pub(crate) fn answer<R: Threads + Wait + Sync, C: Chooser + Sync, G: Gate + Sync>(
+        self,
+        rt: &R,
+        items: ItemList,
+        workers: u32,
+        chooser: &C,
+        gate: &G,
+    ) -> Result<(Service, AnswerList), AllocError>
+        requires workers { 1 ≤ workers }
+        requires may { MayAnswer service_terms IsReady ServiceStands self items }
+        ensures { IfOk result (λ t. ServesMore self items t.0 t.1) }
+    {
         let Service {
             alloc,
             catalogue,
@@ -93,7 +114,7 @@ impl Service {
             chooser,
             gate,
         )?;
-        let text = end_round(
+        let said = end_round(
             rt,
             alloc,
             &catalogue,
@@ -112,7 +133,7 @@ impl Service {
             sessions,
             stacks,
         };
-        Ok((service, text))
+        Ok((service, said))
     }
 }
 

@@ -9,6 +9,7 @@ use std::test::Fail;
 use std::thread::Threads;
 use uni_base::{Limits, MemorySink, MemorySource, Rows, Text, cut_at};
 
+mod bench;
 mod faults;
 mod forms;
 mod gates;

@@ -2,27 +2,24 @@
 ghost use Rattle.std.specs.Prelude.{◌≡◌, ◌*◌, ◌^◌, ◌<◌, ◌++◌, IfOk, OnOk, length};
 ghost use Rattle.std.specs.List.{AllByRecursion};
 ghost use Rattle.round_feed.specs.Seats.{HasCompacted, MayCompact};
-ghost use Rattle.reply_text.specs.Printed.{answers_text};
 ghost use Rattle.unicorn_round.specs.Ending.{IsEnded};
 ghost use Rattle.unicorn_round.specs.Queues.{answers_at, shown_by};
 ghost use Rattle.unicorn_round.specs.SchemaStacks.{AreStacks, IsStackOf};
 ghost use Rattle.unicorn_round.specs.Weaving.{merged};
 ghost use Rattle.version_catalog.specs.Seats.{IsFeederOf, feeder_journal, settings_of};
 
-use crate::merge::{Queues, write_answers, write_slots};
+use crate::merge::{Queues, add_slots};
 use crate::parts::Parts;
 use crate::round::RoundAnswers;
 use crate::stacks::{StackCover, Stacks};
 use rack_aggregate::{Gate, Point};
-use reply_text::Answer;
+use reply_text::{Answer, AnswerList};
 use std::alloc::{AllocError, Global};
 use std::sync::Wait;
-use uni_base::Text;
-use uni_schema::Schema;
 use version_catalog::{Catalogue, Compactor, Feeder};
 
-/// Ends a round whose lines were worked on: the text of all its answers, of which the last are those of the stacks
-/// that were due.
+/// Ends a round whose lines were worked on: all its answers, of which the last are those of the stacks that were
+/// due.
 pub(crate) fn end_round<R: Wait, G: Gate>(
     rt: &R,
     alloc: Global,
@@ -33,14 +30,14 @@ pub(crate) fn end_round<R: Wait, G: Gate>(
     parts: Parts,
     answers: RoundAnswers,
     gate: &G,
-) -> Result<Text, AllocError>
+) -> Result<AnswerList, AllocError>
     requires feeder { IsFeederOf catalogue.now feeder.now }
     requires few { length (feeder_journal feeder.now) < 2 ^ 63 }
     requires compactor { MayCompact catalogue.now 8192 compactor.old }
     requires stacks { AreStacks (settings_of catalogue.now).schema stacks.old }
     ensures compactor { HasCompacted catalogue.now 8192 compactor.old compactor.new }
     ensures stacks { OnOk result (AreStacks (settings_of catalogue.now).schema stacks.new) }
-    ensures ended { IfOk result (IsEnded (settings_of catalogue.now).schema (length (feeder_journal feeder.now)) stacks.old stacks.new parts answers) }
+    ensures ended { IfOk result (IsEnded (length (feeder_journal feeder.now)) stacks.old stacks.new parts answers) }
 {
     stacks.cover_all(parts.compactions.as_slice(), answers.compacted.as_slice());
     let made = feeder.publishes();
@@ -50,44 +47,27 @@ pub(crate) fn end_round<R: Wait, G: Gate>(
     let mut tidied = Vec::new(alloc);
     stacks.answer_due(made, untidied.as_slice(), &mut tidied)?;
     stacks.tidy(made, untidied.as_slice());
-    let schema = feeder.table().schema();
-    write_round(
-        alloc,
-        schema,
-        parts,
-        answers,
-        stacks,
-        made,
-        tidied.as_slice(),
-    )
+    put_together(alloc, parts, answers, stacks, made, tidied)
 }
 
-// The text of a round's answers, and of those of its stacks.
-fn write_round(
+// A round's answers, and those of its stacks.
+fn put_together(
     alloc: Global,
-    schema: &Schema,
     parts: Parts,
     answers: RoundAnswers,
     stacks: &Stacks,
     made: u64,
-    tidied: &[Answer],
-) -> Result<Text, AllocError>
+    tidied: Vec<Answer>,
+) -> Result<AnswerList, AllocError>
     requires { made < 2 ^ 63 }
-    ensures { IfOk result (λ text. text ≡ answers_text schema.now (merged (shown_by made stacks.now) parts.slots.items answers.fed (answers_at answers.asked.items) answers.compacted ++ tidied.now)) }
+    ensures { IfOk result (λ said. said ≡ merged (shown_by made stacks.now) parts.slots.items answers.fed (answers_at answers.asked.items) answers.compacted ++ tidied.items) }
 {
-    let mut text = Text::new(alloc);
+    let mut tidied = tidied;
+    let mut said = Vec::new(alloc);
     let mut queues = Queues::of(alloc, answers)?;
-    write_slots(
-        alloc,
-        schema,
-        parts.slots,
-        &mut queues,
-        stacks,
-        made,
-        &mut text,
-    )?;
-    write_answers(alloc, schema, tidied, &mut text)?;
-    Ok(text)
+    add_slots(parts.slots, &mut queues, stacks, made, &mut said)?;
+    said.append(&mut tidied)?;
+    Ok(AnswerList::from_vec(said))
 }
 
 // Compacts stacks one after the other. Those that found no memory are as before, and are told.

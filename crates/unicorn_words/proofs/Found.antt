@@ -34,7 +34,7 @@ use Rattle.clap.specs.declared.parser.matches.Found.{Found}
 use Rattle.unicorn_words.specs.CommandLine.{IsUnicorn, mode_argument, options}
 use Rattle.unicorn_words.specs.Asked.{mode_text, number_in}
 use Rattle.unicorn_words.specs.declared.words.Mode.{Mode}
-use Rattle.unicorn_words.specs.declared.words.Mode.TheVariants.{Serve, Plain, Check}
+use Rattle.unicorn_words.specs.declared.words.Mode.TheVariants.{Serve, Plain, Check, Bench}
 use Rattle.unicorn_words.proofs.Given.{TakesBy, has_entry, is_given}
 
 abbrev rules : Bor (List (Bor Text)) → List Rule
@@ -172,19 +172,21 @@ module _ (c : Command) (u : IsUnicorn c) (m : ArgMatches) (p : IsParsedFrom c m)
 
   -- a text that is one of the modes' names is the name of a mode
   mode_among : (t : Text) → list_any (λ (name : Bor Text). same_text false name.now t) u.0.now ≡ true → (mode : Mode) × (t ≡ mode_text mode)
-  mode_among t among = go (bytes_eq (codes "serve") t) refl (bytes_eq (codes "plain") t) refl (bytes_eq (codes "check") t) refl
+  mode_among t among = go (bytes_eq (codes "serve") t) refl (bytes_eq (codes "plain") t) refl (bytes_eq (codes "check") t) refl (bytes_eq (codes "bench") t) refl
       (sym (list_any-map (λ s. same_text false s t) (λ (name : Bor Text). name.now) u.0.now ∙ ap (list_any (λ s. same_text false s t)) u.1) ∙ among)
     where
       is : (s : Text) → bytes_eq s t ≡ true → t ≡ s
       is s e = sym ((bytes_eq-Decides s t).0 e)
 
       go : (x : Bool) → bytes_eq (codes "serve") t ≡ x → (y : Bool) → bytes_eq (codes "plain") t ≡ y → (z : Bool) → bytes_eq (codes "check") t ≡ z
-          → (bytes_eq (codes "serve") t || (bytes_eq (codes "plain") t || (bytes_eq (codes "check") t || false))) ≡ true → (mode : Mode) × (t ≡ mode_text mode)
-      go true ex y ey z ez h = (Serve, is (codes "serve") ex)
-      go false ex true ey z ez h = (Plain, is (codes "plain") ey)
-      go false ex false ey true ez h = (Check, is (codes "check") ez)
-      go false ex false ey false ez h =
-          let bad : false ≡ true = rw (ex, ey, ez) at h in
+          → (w : Bool) → bytes_eq (codes "bench") t ≡ w
+          → (bytes_eq (codes "serve") t || (bytes_eq (codes "plain") t || (bytes_eq (codes "check") t || (bytes_eq (codes "bench") t || false)))) ≡ true → (mode : Mode) × (t ≡ mode_text mode)
+      go true ex y ey z ez w ew h = (Serve, is (codes "serve") ex)
+      go false ex true ey z ez w ew h = (Plain, is (codes "plain") ey)
+      go false ex false ey true ez w ew h = (Check, is (codes "check") ez)
+      go false ex false ey false ez true ew h = (Bench, is (codes "bench") ew)
+      go false ex false ey false ez false ew h =
+          let bad : false ≡ true = rw (ex, ey, ez, ew) at h in
           cc
 
   pub mode_given : (mode : Mode) × (first_value (found_of m) (codes "MODE") ≡ Some (mode_text mode))

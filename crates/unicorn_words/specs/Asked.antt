@@ -8,13 +8,14 @@ use Rattle.clap.specs.declared.builder.command.Command.{Command}
 use Rattle.clap.specs.declared.parser.matches.ArgMatches.{ArgMatches}
 use Rattle.unicorn_words.specs.CommandLine.{IsUnicorn, unicorn}
 use Rattle.unicorn_words.specs.declared.words.Mode.{Mode}
-use Rattle.unicorn_words.specs.declared.words.Mode.TheVariants.{Serve, Plain, Check}
+use Rattle.unicorn_words.specs.declared.words.Mode.TheVariants.{Serve, Plain, Check, Bench}
 use Rattle.unicorn_words.specs.declared.words.Settings.{Settings}
 
 abbrev pub mode_text : Mode → Text
 mode_text Serve = codes "serve"
 mode_text Plain = codes "plain"
 mode_text Check = codes "check"
+mode_text Bench = codes "bench"
 
 -- the number that the option's value spells, in what clap found
 abbrev pub number_in : List Row → Text → Option ℕ

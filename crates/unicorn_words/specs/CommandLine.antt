@@ -43,7 +43,7 @@ unicorn_with modes = record {
 }
 
 abbrev pub mode_names : List Text
-mode_names = codes "serve" ∷ codes "plain" ∷ codes "check" ∷ []
+mode_names = codes "serve" ∷ codes "plain" ∷ codes "check" ∷ codes "bench" ∷ []
 
 -- a value that is referred to. Where it lies is nothing that clap asks.
 abbrev pub lent : {X : Type 0} → X → Bor X

@@ -7,7 +7,7 @@ use clap::builder::ValueParser;
 use clap::{Arg, ArgAction, Command, value_parser};
 use std::alloc::{AllocError, Global};
 
-static MODES: [&str; 3] = ["serve", "plain", "check"];
+static MODES: [&str; 4] = ["serve", "plain", "check", "bench"];
 
 /// `unicorn`, with its mode and its options.
 pub(crate) fn command<'a>(alloc: Global) -> Result<Command<'a>, AllocError>

@@ -12,6 +12,7 @@ unicorn --seed 2147483646 --people=2 serve = Serve 4 2147483646 2
 other plain --workers 1 = Plain 1 1 1000
 unicorn plain --workers +7 = Plain 7 1 1000
 unicorn -- check = Check 4 1 1000
+unicorn bench --people 2 = Bench 4 1 2
 unicorn = Usage
 unicorn dance = Usage
 unicorn Serve = Usage

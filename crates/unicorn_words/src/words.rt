@@ -20,6 +20,8 @@ pub enum Mode {
     Plain,
     /// Says what is wrong with the lines of a script.
     Check,
+    /// Answers a script that is made up, and counts its answers.
+    Bench,
 }
 
 /// What the words of the command line ask for.
@@ -111,6 +113,7 @@ fn mode_named(name: &str) -> Option<Mode>
         "serve" => Some(Mode::Serve),
         "plain" => Some(Mode::Plain),
         "check" => Some(Mode::Check),
+        "bench" => Some(Mode::Bench),
         _ => None,
     }
 }

@@ -93,6 +93,15 @@ fn words(rt: HostRuntime) -> Result<(), Fail> {
             Status::Done
         )?
     );
+    assert!(rt;
+        is_run(
+            &rt,
+            alloc,
+            "unicorn bench --people 2",
+            &[b"bench people 2 publishes 11 asks 99 hits 132 sum 198|"],
+            Status::Done
+        )?
+    );
     assert!(rt; is_run(&rt, alloc, "unicorn dance", &[USAGE], Status::Usage)?);
     Ok(())
 }

@@ -1,5 +1,4 @@
 use Rattle.std.proofs.Common.{rules, ◌≡◌, ◌++◌, [], arith, map, sym, ap, ◌∙◌}
-use Rattle.reply_text.specs.Printed.{answers_text}
 use Rattle.version_catalog.specs.Seats.{feeder_journal, settings_of}
 use Rattle.unicorn_round.specs.Ending.{IsEnded}
 use Rattle.unicorn_round.specs.Queues.{answers_at, shown_by}
@@ -40,26 +39,24 @@ returns-clause-compactor g c =
 
 pub returns-clause-stacks : goal.returns-clause-stacks
 returns-clause-stacks g c =
-    on_ok c.write_round.result
+    on_ok c.put_together.result
     (all_are (settings_of c.args.catalogue.now).schema c.args.stacks.now c.cover_all.new.self c.as_slice.result.now c.as_slice-2.result.now c.requires.stacks c.cover_all.ensures
     c.publishes-made.result (map name_of c.as_slice-6.result.now) c.tidy.new.self c.tidy.ensures)
 
 pub returns-clause-ended : goal.returns-clause-ended
 returns-clause-ended g c =
-    let schema = (settings_of c.args.catalogue.now).schema in
     let made = c.publishes-made.result in
     let mid = c.cover_all.new.self in
     let new = c.tidy.new.self in
     let answers = c.args.answers in
     let names = map name_of c.in_ok-untidied.untidied.items in
-    let under : c.deref.result.now ≡ schema = search rules in
-    let tidied : c.as_slice-7.result.now ≡ tidy_answers made names mid =
-    c.as_slice-7.ensures.value ∙ c.in_ok-answer_due.ensures {u = tt} ∙ ap (λ ls. ls ++ tidy_answers made (map name_of c.as_slice-5.result.now) mid) c.new-tidied.ensures.items
+    let tidied : c.answer_due.new.answers.items ≡ tidy_answers made names mid =
+    c.in_ok-answer_due.ensures {u = tt} ∙ ap (λ ls. ls ++ tidy_answers made (map name_of c.as_slice-5.result.now) mid) c.new-tidied.ensures.items
     ∙ ap (λ us. tidy_answers made (map name_of us) mid) c.as_slice-5.ensures.value in
-    if_ok (λ text. text ≡ answers_text c.deref.result.now (merged (shown_by made new) c.args.parts.slots.items answers.fed (answers_at answers.asked.items) answers.compacted ++ c.as_slice-7.result.now))
-    (IsEnded schema _ c.args.stacks.now new c.args.parts answers) c.write_round.result
-    (λ text writes.
-    is_ended schema c.deref.result.now _ made c.args.stacks.now mid new c.args.parts answers text (map name_of c.as_slice-4.result.now) names c.as_slice-7.result.now c.as_slice.result.now c.as_slice-2.result.now
-    under c.publishes-made.ensures c.as_slice.ensures c.as_slice-2.ensures c.cover_all.ensures (c.in_ok-untidied.ensures {u = tt}) tidied
-    (c.tidy.ensures ∙ ap (λ us. map (tidy made (map name_of us)) mid) c.as_slice-6.ensures.value) writes)
-    c.write_round.ensures
+    if_ok (λ said. said ≡ merged (shown_by made new) c.args.parts.slots.items answers.fed (answers_at answers.asked.items) answers.compacted ++ c.answer_due.new.answers.items)
+    (IsEnded _ c.args.stacks.now new c.args.parts answers) c.put_together.result
+    (λ said says.
+    is_ended _ made c.args.stacks.now mid new c.args.parts answers said (map name_of c.as_slice-4.result.now) names c.answer_due.new.answers.items c.as_slice.result.now c.as_slice-2.result.now
+    c.publishes-made.ensures c.as_slice.ensures c.as_slice-2.ensures c.cover_all.ensures (c.in_ok-untidied.ensures {u = tt}) tidied
+    (c.tidy.ensures ∙ ap (λ us. map (tidy made (map name_of us)) mid) c.as_slice-6.ensures.value) says)
+    c.put_together.ensures

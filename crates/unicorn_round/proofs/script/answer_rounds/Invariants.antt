@@ -1,7 +1,7 @@
 -- some first rounds were read and answered
 use Rattle.std.proofs.Common.{◌≡◌, ◌-◌, None}
 use Rattle.unicorn_round.specs.Reads.{GoesOn, Ongoing}
-use Rattle.unicorn_round.proofs.script.answer_script.Given as goal
+use Rattle.unicorn_round.proofs.script.answer_rounds.Given as goal
 
 abbrev pub invariant-loop-round : goal.invariant-loop-round
 invariant-loop-round g l = record {

@@ -1,0 +1,16 @@
+use Rattle.std.proofs.Common.{rules, ◌≡◌, Option, None, Some, sym, ap, ◌∙◌, subst}
+use Rattle.bench_script.specs.BenchScript.{bench_text}
+use Rattle.uni_base.specs.StandardLimits.{standard_limits}
+use Rattle.unicorn_round.specs.Bench.{CounterStands, counter_terms}
+use Rattle.unicorn_round.specs.Reads.{ScriptAnswered}
+use Rattle.unicorn_round.proofs.Benched.{benched}
+use Rattle.unicorn_round.proofs.summary.count_script.Goals as goal
+
+pub returns-in-Ok : goal.returns-in-Ok
+returns-in-Ok g c =
+    let script = bench_text c.args.seed c.args.people in
+    let limits = c.standard-limits.result in
+    let after = c.answer_rounds-counted.new.source in
+    let from : c.new-source.result ≡ script = c.new-source.ensures ∙ c.in_ok-text.ensures {u = tt} in
+    let all = subst (λ bytes. ScriptAnswered limits counter_terms CounterStands (Some bytes) (Some after) None None c.in-Ok.counter c.in-Ok.field-0-1) from c.in-Ok.ensures.all in
+    benched c.counts_agree.ensures limits script (Some after) None None c.in-Ok.counter c.in-Ok.field-0-1 c.standard-limits.ensures all
