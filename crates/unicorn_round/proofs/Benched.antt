@@ -1,18 +1,17 @@
 -- What the answers of a script from memory come to.
-use Rattle.std.proofs.Common.{◌≡◌, ℕ, true, List, [], ◌∷◌, ◌++◌, Option, Some, refl, sym, ap, ◌∙◌, subst, append-nil}
+use Rattle.std.proofs.Common.{◌≡◌, ℕ, List, [], ◌++◌, Option, Some, refl, sym, ap, ◌∙◌, subst, append-nil}
 use Rattle.uni_base.specs.StandardLimits.{standard_limits}
 use Rattle.std.specs.List.{list_any}
 use Rattle.uni_base.specs.declared.limits.Limits.{Limits}
-use Rattle.reply_text.specs.declared.answer.Answer.{Answer}
 use Rattle.script_rounds.specs.Entries.{Entry}
 use Rattle.script_rounds.specs.Reading.{Gave, NoneLeft}
 use Rattle.script_rounds.specs.Rounds.{opened, script_of}
 use Rattle.script_rounds.specs.Terms.{Terms, under}
-use Rattle.round_feed.specs.Seats.{feed_of, terms_of}
-use Rattle.unicorn_round.specs.Answers.{answers, opening_standing}
+use Rattle.round_feed.specs.Seats.{feed_of}
+use Rattle.unicorn_round.specs.Answers.{opening_standing}
 use Rattle.unicorn_round.specs.Bench.{CounterStands, counter_terms, is_lacking}
 use Rattle.unicorn_round.specs.Counts.{CountsAgree, counts_of, counts_of_script, script_counts}
-use Rattle.unicorn_round.specs.Reads.{HasRead, ScriptAnswered}
+use Rattle.unicorn_round.specs.Reads.{ScriptAnswered}
 use Rattle.unicorn_round.specs.ServedLaws.{served_legal}
 use Rattle.unicorn_round.specs.declared.counter.Counter.{Counter}
 use Rattle.unicorn_round.proofs.Counted.{rounds_have}

@@ -1,10 +1,9 @@
 -- Counts of answers that come one after the other.
-use Rattle.std.proofs.Common.{◌≡◌, ◌≤◌, ◌<◌, ℕ, ◌+◌, Bool, true, false, ◌||◌, ◌&&◌, ◌⊎◌, inl, inr, List, [], ◌∷◌, ◌++◌, length, sum_by, refl, sym, ap, ◌∙◌, subst, arith}
+use Rattle.std.proofs.Common.{◌≡◌, ◌+◌, Bool, true, false, ◌||◌, ◌&&◌, ◌⊎◌, inl, inr, List, [], ◌∷◌, ◌++◌, refl, sym, ap, ◌∙◌, arith}
 use Rattle.std.specs.List.{AllByRecursion, list_any}
 use Rattle.std.proofs.lemmas.List.Folds.{list_any-append}
 use Rattle.std.proofs.lemmas.List.Sums.{sum_by-append}
 use Rattle.reply_text.specs.declared.answer.Answer.{Answer}
-use Rattle.reply_text.specs.declared.answer.Answer.TheVariants as answer
 use Rattle.script_rounds.specs.Entries.{AreItemsOf, Entry, IsItemOf, change, publish, ask, compact, stats, refused, fault, query_fault, reads_query}
 use Rattle.script_rounds.specs.Terms.{Terms}
 use Rattle.script_rounds.specs.declared.item.Item.{Item}
@@ -13,7 +12,7 @@ use Rattle.round_feed.specs.Feeds.{Feed, made}
 use Rattle.unicorn_round.specs.Answers.{Standing, after_entry, after_entries, after_round, at_end, entry_answers, entries_answers, replies, round_answers, rounds_answers}
 use Rattle.unicorn_round.specs.Bench.{is_lacking, is_mixed, may_ask, publishes}
 use Rattle.unicorn_round.specs.Counts.{HasAll, IsApart, asks_told, counts_of, hits_told, ids_told, is_ask, is_publish, no_counts, plus, publishes_told}
-use Rattle.unicorn_round.specs.Marks.{Mark, plain, lacking, at, lacks, Record, RoundRecord}
+use Rattle.unicorn_round.specs.Marks.{Mark, plain, lacking, at, lacks, Record}
 use Rattle.unicorn_round.specs.Records.{AreMarked, IsRecordFrom}
 use Rattle.unicorn_round.specs.Stacks.{tidy_answers}
 use Rattle.unicorn_round.specs.declared.counts.Counts.{Counts}

@@ -1,5 +1,5 @@
 -- What answers come to, for one record and for another.
-use Rattle.std.proofs.Common.{◌≡◌, ◌≤◌, ℕ, ◌+◌, ◌||◌, Bool, true, false, ◌⊎◌, inl, inr, List, [], ◌∷◌, ◌++◌, length, map, filter, sum_by, if◌then◌else◌, is_some, nat_lt, refl, sym, ap, ◌∙◌, subst, arith, append-nil}
+use Rattle.std.proofs.Common.{◌≡◌, ℕ, ◌+◌, ◌||◌, Bool, true, false, inl, inr, List, [], ◌∷◌, ◌++◌, map, filter, sum_by, if◌then◌else◌, is_some, refl, sym, ap, ◌∙◌, subst, arith}
 use Rattle.std.specs.List.{AllByRecursion, list_any}
 use Rattle.std.specs.Prelude.{⊤}
 use Rattle.std.proofs.lemmas.List.Sums.{sum_by-append}
@@ -8,15 +8,14 @@ use Rattle.reply_text.specs.declared.answer.Answer.TheVariants as answer
 use Rattle.script_rounds.specs.Entries.{Entry, change, publish, ask, compact, stats, refused, fault, query_fault}
 use Rattle.script_rounds.specs.Terms.{Terms}
 use Rattle.uni_table.specs.Commands.{next, refuses}
-use Rattle.uni_table.specs.Contents.{ended}
 use Rattle.round_feed.specs.Feeds.{Feed, made, fed_one}
-use Rattle.round_feed.specs.Steps.{after, given, marked_by}
+use Rattle.round_feed.specs.Steps.{marked_by}
 use Rattle.unicorn_round.specs.declared.stacks.StackCover.{StackCover}
-use Rattle.unicorn_round.specs.Answers.{Standing, opening_standing, after_entry, after_entries, after_round, after_rounds, at_end, answers, entry_answers, entries_answers, replies, round_answers, rounds_answers}
-use Rattle.unicorn_round.specs.Counts.{CountsAgree, HasAll, IsApart, asks_told, hits_told, ids_told, publishes_told, counts_of, is_ask, is_publish, nothing_lacks, script_counts}
-use Rattle.unicorn_round.specs.Legal.{AreMade, AreWithin, IsMade, Legal}
+use Rattle.unicorn_round.specs.Answers.{Standing, opening_standing, after_entry, after_entries, after_round, at_end, answers, entry_answers, entries_answers, replies, round_answers, rounds_answers}
+use Rattle.unicorn_round.specs.Counts.{CountsAgree, HasAll, IsApart, asks_told, hits_told, ids_told, publishes_told, is_ask, is_publish, nothing_lacks}
+use Rattle.unicorn_round.specs.Legal.{AreMade, AreWithin, IsMade}
 use Rattle.unicorn_round.specs.Marks.{Mark, plain, lacking, at, lacks, Record, RoundRecord, StackName}
-use Rattle.unicorn_round.specs.Plain.{Lacks, plain_mark, plain_marks, plain_record, plain_round}
+use Rattle.unicorn_round.specs.Plain.{plain_mark, plain_marks, plain_round}
 use Rattle.unicorn_round.specs.Records.{AreMarked, IsMarked, IsRecord, IsRecordFrom, IsRoundRecord}
 use Rattle.unicorn_round.specs.Stacks.{is_due, is_untidied, rows_of, tidy_answer, tidy_answers}
 

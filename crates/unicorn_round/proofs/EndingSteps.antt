@@ -1,5 +1,5 @@
 -- How a round ends whose lines were worked on.
-use Rattle.std.proofs.Common.{◌≡◌, ◌≤◌, ◌++◌, ℕ, Bool, List, filter, map, sym, ap, ◌∙◌, subst}
+use Rattle.std.proofs.Common.{◌≡◌, ◌++◌, ℕ, Bool, List, filter, map, sym, ap, ◌∙◌, subst}
 use Rattle.uni_schema.specs.Schema.{Declarations}
 use Rattle.reply_text.specs.declared.answer.Answer.{Answer}
 use Rattle.script_rounds.specs.declared.item.Item.{Item}

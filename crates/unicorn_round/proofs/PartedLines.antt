@@ -1,5 +1,5 @@
 -- The lines of a round, parted by who answers them.
-use Rattle.std.proofs.Common.{◌≡◌, ◌≤◌, ◌<◌, ◌+◌, ◌==◌, ℕ, zero, suc, Bool, true, false, List, [], ◌∷◌, ◌++◌, length, filter, map, get_or, if◌then◌else◌, Option, None, Some, refl, sym, ap, ◌∙◌, arith}
+use Rattle.std.proofs.Common.{◌≡◌, ◌≤◌, ◌<◌, ◌+◌, ◌==◌, ℕ, suc, Bool, true, false, List, [], ◌∷◌, length, filter, get_or, if◌then◌else◌, Option, None, Some, refl, ap, ◌∙◌, arith}
 use Rattle.std.proofs.lemmas.Bool.Decides.{nat_tests}
 use Rattle.std.proofs.lemmas.List.Elements.{All-cons, All-nil}
 use Rattle.std.specs.List.{All, AllByRecursion, cons_option, filter_map}
@@ -14,7 +14,7 @@ use Rattle.query_check.specs.Plan.{seen, stated_of}
 use Rattle.apply_extract.specs.Conditions.{IsAsked}
 use Rattle.session_asks.specs.Replies.{IsAsk}
 use Rattle.session_asks.specs.declared.asks.AskLine.{AskLine}
-use Rattle.unicorn_round.specs.Parted.{IsFor, IsParted}
+use Rattle.unicorn_round.specs.Parted.{IsFor}
 use Rattle.unicorn_round.specs.Weaving.{ask_at, asks_at, compactions, feed_items, is_compaction, is_feed}
 use Rattle.unicorn_round.proofs.Elements.{filter_fewer}
 

@@ -1,5 +1,5 @@
 -- The answers that are left, one taken.
-use Rattle.std.proofs.Common.{◌≡◌, ◌<◌, ◌≤◌, ◌==◌, ◌≢◌, ℕ, zero, suc, Bool, true, false, List, [], ◌∷◌, ◌++◌, length, map, get_or, set, drop, if◌then◌else◌, refl, sym, ap, ◌∙◌, arith, append_assoc}
+use Rattle.std.proofs.Common.{◌≡◌, ◌<◌, ◌==◌, ◌≢◌, ℕ, Bool, true, false, List, [], ◌++◌, length, map, get_or, set, drop, if◌then◌else◌, refl, sym, ap, ◌∙◌, arith, append_assoc}
 use Rattle.std.proofs.lemmas.Bool.Decides.{nat_tests}
 use Rattle.std.proofs.lemmas.List.{get_or-map, get_or-set_other, length-map, map-set}
 use Rattle.std.proofs.lemmas.Grind.{get_or-set_at}

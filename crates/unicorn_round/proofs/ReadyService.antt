@@ -2,7 +2,6 @@
 use Rattle.std.proofs.Common.{◌≡◌, ◌≤◌, ◌<◌, ◌+◌, ◌*◌, ◌^◌, ℕ, Bool, true, false, List, [], ◌∷◌, ◌++◌, length, get_or, if◌then◌else◌, is_some, nat_lt, refl, ap, sym, subst, ◌∙◌, arith, length-append}
 use Rattle.std.proofs.lemmas.Bool.Decides.{nat_tests}
 use Rattle.std.specs.List.{All, AllByRecursion}
-use mathlib.Core.List.{IsPrefix}
 use Rattle.uni_base.specs.StandardLimits.{IsWithinStandard}
 use Rattle.uni_base.specs.declared.limits.Limits.{Limits}
 use Rattle.uni_schema.specs.Schema.{Declarations}
@@ -28,7 +27,7 @@ use Rattle.session_asks.specs.Seats.{AllHaveTaken}
 use Rattle.session_asks.specs.declared.asks.AskLine.{AskLine}
 use Rattle.round_feed.specs.Fed.{IsFed, feed_entries}
 use Rattle.round_feed.specs.Feeds.{Feed, fed_one, made, opening_feed}
-use Rattle.round_feed.specs.Seats.{HasCompacted, HasFed, MayCompact, feed_of, terms_of}
+use Rattle.round_feed.specs.Seats.{HasCompacted, MayCompact, feed_of, terms_of}
 use Rattle.round_feed.specs.Steps.{after}
 use Rattle.unicorn_round.specs.Answerer.{IsOpened}
 use Rattle.unicorn_round.specs.Parted.{IsParted}
@@ -36,7 +35,6 @@ use Rattle.unicorn_round.specs.SchemaStacks.{AreStacks}
 use Rattle.unicorn_round.specs.Served.{IsServed}
 use Rattle.unicorn_round.specs.Service.{AreNew, IsIdle, IsReady, ServiceStands, service_terms}
 use Rattle.unicorn_round.specs.Stacks.{opening_stacks}
-use Rattle.unicorn_round.specs.Weaving.{asks_at}
 use Rattle.unicorn_round.specs.Work.{MayAsk, MayTakeCompactions, MayTakeFeed}
 use Rattle.unicorn_round.specs.declared.parts.Parts.{Parts}
 use Rattle.unicorn_round.specs.declared.service.Service.{Service}

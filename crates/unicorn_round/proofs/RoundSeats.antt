@@ -1,5 +1,5 @@
 -- The seats of a round, from before it to after it.
-use Rattle.std.proofs.Common.{◌≡◌, ◌≤◌, ◌<◌, ◌+◌, ◌*◌, ◌^◌, ℕ, zero, suc, List, [], ◌∷◌, ◌++◌, length, get_or, refl, ap, ◌∙◌, sym, subst, arith}
+use Rattle.std.proofs.Common.{◌≡◌, ◌≤◌, ◌<◌, ◌+◌, ◌^◌, ℕ, zero, suc, List, [], ◌∷◌, length, get_or, refl, ap, ◌∙◌, sym, subst, arith}
 use Rattle.std.specs.List.{AllByRecursion, AllZip}
 use mathlib.Core.List.{IsPrefix}
 use Rattle.uni_schema.specs.Schema.{Declarations}
@@ -7,7 +7,6 @@ use Rattle.uni_table.specs.declared.command.Command.{Command}
 use Rattle.reply_text.specs.declared.answer.Answer.{Answer}
 use Rattle.reply_text.specs.declared.answer.Answer.TheVariants.{Compacted, Reply, Memory}
 use Rattle.script_rounds.specs.Entries.{Entry as ScriptEntry}
-use Rattle.turn_lock.specs.Seats.{seat_turns}
 use Rattle.turn_lock.specs.declared.seats.Seat.{Seat}
 use Rattle.version_catalog.specs.Seats.{IsFeederOf, compactor_journal, feeder_journal, feeder_sessions, feeder_turns, session_journal, settings_of}
 use Rattle.version_catalog.specs.declared.catalogue.Catalogue.{Catalogue}
@@ -16,7 +15,7 @@ use Rattle.version_catalog.specs.declared.entry.Entry.{Entry}
 use Rattle.version_catalog.specs.declared.feeder.Feeder.{Feeder}
 use Rattle.version_catalog.specs.declared.state.CatalogueState.{CatalogueState}
 use Rattle.session_asks.specs.Replies.{AreReplied}
-use Rattle.session_asks.specs.Seats.{AllHaveTaken, AllMayTake, AllReplied, HasTaken, MayTake}
+use Rattle.session_asks.specs.Seats.{AllHaveTaken, AllMayTake, AllReplied, HasTaken}
 use Rattle.session_asks.specs.declared.asks.AskLine.{AskLine}
 use Rattle.session_asks.proofs.Replied.{length_prefix, replied_lower, replied_more}
 use Rattle.session_asks.proofs.Takes.{prefix_trans}

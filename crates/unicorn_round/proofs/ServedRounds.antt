@@ -1,5 +1,5 @@
 -- A round that was worked on and ended is one round more that is served.
-use Rattle.std.proofs.Common.{◌≡◌, ◌≤◌, ◌<◌, ◌+◌, ◌++◌, ◌∷◌, [], ℕ, zero, suc, List, Bool, length, map, get_or, refl, sym, ap, ◌∙◌, subst, arith}
+use Rattle.std.proofs.Common.{◌≡◌, ◌≤◌, ◌<◌, ◌++◌, ◌∷◌, [], ℕ, zero, suc, List, Bool, length, map, get_or, refl, sym, ap, ◌∙◌, subst, arith}
 use mathlib.Core.Logic.{inl, inr, ◌⊎◌}
 use Rattle.reply_text.specs.declared.answer.Answer.{Answer}
 use Rattle.script_rounds.specs.Entries.{AreItemsOf, Entry}
@@ -11,19 +11,18 @@ use Rattle.version_catalog.specs.Seats.{feeder_journal}
 use Rattle.version_catalog.specs.declared.catalogue.Catalogue.{Catalogue}
 use Rattle.version_catalog.specs.declared.feeder.Feeder.{Feeder}
 use Rattle.session_asks.specs.Replies.{AreReplied}
-use Rattle.session_asks.specs.declared.asks.AskLine.{AskLine}
 use Rattle.round_feed.specs.Compacted.{AreCompacted, compact_entries}
 use Rattle.round_feed.specs.Fed.{fed_answers, feed_entries}
 use Rattle.round_feed.specs.Feeds.{fed_one, made}
 use Rattle.round_feed.specs.Seats.{feed_of, terms_of}
 use Rattle.round_feed.specs.Steps.{after, given}
 use Rattle.unicorn_round.specs.Answers.{Standing}
-use Rattle.unicorn_round.specs.Ending.{IsEnded, covers_between}
+use Rattle.unicorn_round.specs.Ending.{IsEnded}
 use Rattle.unicorn_round.specs.Parted.{IsParted}
 use Rattle.unicorn_round.specs.Queues.{answers_at, shown_by}
 use Rattle.unicorn_round.specs.Served.{IsServed}
 use Rattle.unicorn_round.specs.Stacks.{due_untidied, tidy, tidy_answers}
-use Rattle.unicorn_round.specs.Weaving.{asks_at, compacted_covers, compactions, feed_items, merged, slot_of}
+use Rattle.unicorn_round.specs.Weaving.{asks_at, compacted_covers, merged}
 use Rattle.unicorn_round.specs.Work.{AreAnswered}
 use Rattle.unicorn_round.specs.declared.parts.Parts.{Parts}
 use Rattle.unicorn_round.specs.declared.round.RoundAnswers.{RoundAnswers}

@@ -1,5 +1,5 @@
 -- What `bench` keeps from round to round, and how it ends.
-use Rattle.std.specs.Prelude.{ℕ, Bool, true, false, ◌≡◌, ◌&&◌, List, [], ◌∷◌, Option}
+use Rattle.std.specs.Prelude.{ℕ, Bool, true, false, ◌≡◌, ◌&&◌, List, [], Option}
 use Rattle.std.specs.List.{AllByRecursion, list_any}
 use Rattle.reply_text.specs.declared.answer.Answer.{Answer}
 use Rattle.reply_text.specs.declared.answer.Answer.TheVariants as answer

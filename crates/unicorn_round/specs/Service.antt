@@ -2,9 +2,9 @@
 use Rattle.std.specs.Prelude.{ℕ, ◌≡◌, ◌+◌, ◌*◌, ◌≤◌, ◌++◌, ◌∷◌, [], List, length}
 use Rattle.std.specs.List.{AllByRecursion}
 use Rattle.uni_base.specs.StandardLimits.{IsWithinStandard}
-use Rattle.turn_lock.specs.Seats.{SeatRests, seat_turns}
+use Rattle.turn_lock.specs.Seats.{seat_turns}
 use Rattle.turn_lock.specs.declared.seats.Seat.{Seat}
-use Rattle.version_catalog.specs.Seats.{IsCompactorOf, IsFeederOf, IsSessionOf, compactor_turns, feeder_journal, feeder_turns, settings_of}
+use Rattle.version_catalog.specs.Seats.{IsCompactorOf, IsFeederOf, compactor_turns, feeder_journal, feeder_turns, settings_of}
 use Rattle.version_catalog.specs.declared.catalogue.Catalogue.{Catalogue}
 use Rattle.version_catalog.specs.declared.entry.Entry.{Entry}
 use Rattle.version_catalog.specs.declared.state.CatalogueState.{CatalogueState}

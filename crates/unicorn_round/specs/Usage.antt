@@ -3,7 +3,6 @@ use Rattle.std.specs.Prelude.{ℕ, ◌≡◌, List, Option, codes}
 use Rattle.uni_base.specs.StandardLimits.{standard_limits}
 use Rattle.unicorn_words.specs.declared.words.Mode.{Mode}
 use Rattle.unicorn_words.specs.declared.words.Mode.TheVariants.{Serve, Plain, Check, Bench}
-use Rattle.unicorn_words.specs.declared.words.Settings.{Settings}
 use Rattle.unicorn_round.specs.declared.status.Status.{Status}
 use Rattle.unicorn_round.specs.declared.status.Status.TheVariants as ends
 use Rattle.unicorn_round.specs.Bench.{BenchEnds}

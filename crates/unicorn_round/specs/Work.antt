@@ -1,5 +1,5 @@
 -- What the feeder, the compactor and the sessions do with the lines of a round.
-use Rattle.std.specs.Prelude.{ℕ, ◌≡◌, ◌*◌, ◌≤◌, ◌<◌, All, List, [], length, get_or, Result, IfOk}
+use Rattle.std.specs.Prelude.{ℕ, ◌≡◌, ◌*◌, ◌<◌, All, List, [], length, get_or, Result, IfOk}
 use Rattle.std.proofs.Common.{Vec, Global}
 use Rattle.reply_text.specs.declared.answer.Answer.{Answer}
 use Rattle.script_rounds.specs.Fits.{ItemsFit}

@@ -1,5 +1,3 @@
-use Rattle.std.proofs.Common.{rules, ◌≡◌, true}
-use Rattle.unicorn_words.specs.declared.words.Settings.{Settings}
 use Rattle.unicorn_round.proofs.Words.{ran_at_once}
 use Rattle.unicorn_round.proofs.program.run.Goals as goal
 

@@ -1,7 +1,7 @@
 use Rattle.std.proofs.Common.{sym, subst, ◌∙◌}
 use mathlib.Core.List.{IsPrefix}
 use Rattle.session_asks.specs.Seats.{AllHaveTaken, AllReplied}
-use Rattle.version_catalog.specs.Seats.{compactor_journal, feeder_journal, settings_of}
+use Rattle.version_catalog.specs.Seats.{compactor_journal, settings_of}
 use Rattle.round_feed.specs.Feeds.{Feed}
 use Rattle.unicorn_round.specs.Work.{MayAsk}
 use Rattle.unicorn_round.proofs.Results.{at_if_ok}

@@ -1,4 +1,4 @@
-use Rattle.std.proofs.Common.{◌≡◌, ◌≤◌, ◌<◌, ◌+◌, ◌++◌, ◌∷◌, [], ℕ, List, length, refl, sym, ap, ◌∙◌, subst, arith, append-nil}
+use Rattle.std.proofs.Common.{◌≡◌, ◌≤◌, ◌<◌, ◌+◌, ◌++◌, ◌∷◌, [], ℕ, List, length, refl, sym, ap, ◌∙◌, subst, arith}
 use Rattle.std.specs.Arc.{arc_value}
 use Rattle.uni_schema.specs.declared.refusal.SchemaRefusal.{SchemaRefusal}
 use Rattle.script_rounds.specs.Fits.{ItemsFit}
@@ -8,7 +8,6 @@ use Rattle.script_rounds.specs.Terms.{Terms, under}
 use Rattle.unicorn_round.specs.Headers.{FaultWritten}
 use Rattle.unicorn_round.specs.Outcome.{Ran}
 use Rattle.unicorn_round.specs.Statuses.{status_of}
-use Rattle.unicorn_round.specs.Reads.{HasRead}
 use Rattle.unicorn_round.specs.Writing.{Took, TookPart}
 use Rattle.unicorn_round.proofs.RanSteps.{ran_refused, ran_begun, ran_memory, ran_stopped, ran_unwritten, took_none, took_append}
 use Rattle.unicorn_round.proofs.Reading.{read_header, reads_on, ends_on}

@@ -1,4 +1,4 @@
-use Rattle.std.proofs.Common.{◌≡◌, ◌++◌, [], ℕ, List, sym, ap, ◌∙◌, subst, append-nil}
+use Rattle.std.proofs.Common.{[], ℕ, List, sym, ap, ◌∙◌, subst, append-nil}
 use Rattle.script_rounds.specs.Terms.{Terms}
 use Rattle.unicorn_round.specs.Reads.{HasRead}
 use Rattle.unicorn_round.specs.Writing.{Took, TookPart}

@@ -1,6 +1,5 @@
-use Rattle.std.proofs.Common.{rules, ◌≡◌, Option, None, Some, sym, ap, ◌∙◌, subst}
+use Rattle.std.proofs.Common.{◌≡◌, None, Some, ◌∙◌, subst}
 use Rattle.bench_script.specs.BenchScript.{bench_text}
-use Rattle.uni_base.specs.StandardLimits.{standard_limits}
 use Rattle.unicorn_round.specs.Bench.{CounterStands, counter_terms}
 use Rattle.unicorn_round.specs.Reads.{ScriptAnswered}
 use Rattle.unicorn_round.proofs.Benched.{benched}

@@ -1,5 +1,5 @@
-use Rattle.std.proofs.Common.{rules, ◌≡◌, ◌++◌, [], arith, map, sym, ap, ◌∙◌}
-use Rattle.version_catalog.specs.Seats.{feeder_journal, settings_of}
+use Rattle.std.proofs.Common.{◌≡◌, ◌++◌, arith, map, ap, ◌∙◌}
+use Rattle.version_catalog.specs.Seats.{settings_of}
 use Rattle.unicorn_round.specs.Ending.{IsEnded}
 use Rattle.unicorn_round.specs.Queues.{answers_at, shown_by}
 use Rattle.unicorn_round.specs.Stacks.{is_due, name_of, tidy, tidy_answers}

@@ -1,6 +1,5 @@
-use Rattle.std.proofs.Common.{rules, ◌≡◌, List, [], refl, sym, ap, ◌∙◌, subst, arith}
+use Rattle.std.proofs.Common.{◌≡◌, [], refl, sym, ap, ◌∙◌}
 use Rattle.std.specs.List.{list_any}
-use Rattle.reply_text.specs.declared.answer.Answer.{Answer}
 use Rattle.unicorn_round.specs.Bench.{is_lacking}
 use Rattle.unicorn_round.specs.Counts.{counts_of}
 use Rattle.unicorn_round.specs.Service.{service_terms}

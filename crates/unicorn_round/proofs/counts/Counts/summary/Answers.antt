@@ -1,4 +1,4 @@
-use Rattle.std.proofs.Common.{rules, ◌≡◌, ◌++◌, ◌∷◌, [], codes, ap, ◌∙◌}
+use Rattle.std.proofs.Common.{◌≡◌, ◌++◌, ◌∷◌, [], codes, ap, ◌∙◌}
 use Rattle.bench_script.proofs.Joined.{joined}
 use Rattle.unicorn_round.specs.Counts.{labelled}
 use Rattle.unicorn_round.proofs.counts.Counts.summary.Goals as goal

@@ -9,7 +9,7 @@ use Rattle.session_asks.proofs.Replied.{length_prefix}
 use Rattle.unicorn_round.specs.Parted.{IsFor, IsParted}
 use Rattle.unicorn_round.specs.Service.{IsIdle}
 use Rattle.unicorn_round.specs.Work.{MayAsk}
-use Rattle.unicorn_round.proofs.PartedLines.{all_of, each_for, few_compactions, few_fed}
+use Rattle.unicorn_round.proofs.PartedLines.{all_of, each_for}
 use Rattle.unicorn_round.proofs.ReadyService.{asked_idle, few_publishes, may_ask, may_compact, may_feed, may_tidy, few_parts}
 use Rattle.unicorn_round.proofs.ServedRounds.{served_round}
 use Rattle.unicorn_round.proofs.service.Service.answer.Goals as goal

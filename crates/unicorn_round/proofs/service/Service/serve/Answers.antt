@@ -1,4 +1,4 @@
-use Rattle.std.proofs.Common.{rules, ◌≡◌, ◌++◌, ap, subst, sym, ◌∙◌}
+use Rattle.std.proofs.Common.{rules, ◌≡◌, ◌++◌, ap, sym, ◌∙◌}
 use Rattle.reply_text.specs.Printed.{answers_text}
 use Rattle.round_feed.specs.Seats.{terms_of}
 use Rattle.script_rounds.specs.Terms.{Terms}
