@@ -7,7 +7,7 @@ ghost use Rattle.forward_data.specs.Combined.{AreChanged, StandAlone, is_among, 
 
 use crate::layer::left_by;
 use crate::{ForwardDelta, ForwardItem, ForwardItems, ForwardStack, RecordKey};
-use layer_base::{last_words, look_up};
+use layer_base::{last_words, look_up_near};
 use std::alloc::{AllocError, Global};
 
 // The keys at which layers after the oldest one, up to a count, have a record: in order, each once.
@@ -41,14 +41,21 @@ pub(crate) fn combined(
     ensures { IfOk result (λ delta. delta ≡ records_of (take count stack.now.0)) }
 {
     let mut delta = ForwardDelta::new(alloc);
+    let mut hints = first_hints(alloc, count)?;
     let mut at = 0;
     for (key, items) in rows {
         let to = passed(changed, at, key);
-        put_records(alloc, &mut delta, stack, count, &changed[at..to])?;
-        put_unchanged(alloc, &mut delta, changed, key, items.as_slice())?;
+        put_records(alloc, &mut delta, stack, &mut hints, &changed[at..to])?;
+        put_unchanged(alloc, &mut delta, changed, at, key, items.as_slice())?;
         at = to;
     }
-    put_records(alloc, &mut delta, stack, count, &changed[at..changed.len()])?;
+    put_records(
+        alloc,
+        &mut delta,
+        stack,
+        &mut hints,
+        &changed[at..changed.len()],
+    )?;
     Ok(delta)
 }
 
@@ -65,35 +72,49 @@ fn passed(keys: &[(RecordKey, ())], from: usize, key: &RecordKey) -> usize
     keys.len()
 }
 
-// Puts the records that the first layers of a stack have at some keys.
+// A hint for each of so many layers, at its first record.
+fn first_hints(alloc: Global, count: usize) -> Result<Vec<usize>, AllocError>
+    ensures { IfOk result (λ hints. length hints.items ≡ count) }
+{
+    let mut hints = Vec::with_capacity(alloc, count)?;
+    for _i in 0..count {
+        hints.push(0)?;
+    }
+    Ok(hints)
+}
+
+// Puts the records that the first layers of a stack have at some keys. There is a hint for each of
+// the layers.
 fn put_records(
     alloc: Global,
     delta: &mut ForwardDelta,
     stack: &ForwardStack,
-    count: usize,
+    hints: &mut [usize],
     keys: &[(RecordKey, ())],
 ) -> Result<(), AllocError>
-    requires { count ≤ length stack.now.0 }
-    ensures { OnOk result (delta.new ≡ putting_records (take count stack.now.0) keys.now delta.old) }
+    requires { length hints.old ≤ length stack.now.0 }
+    ensures records { OnOk result (delta.new ≡ putting_records (take (length hints.old) stack.now.0) keys.now delta.old) }
+    ensures hints { length hints.new ≡ length hints.old }
 {
     for (key, _nothing) in keys {
-        put_record(alloc, delta, key, stack.front_lookup(count, key))?;
+        put_record(alloc, delta, key, stack.front_lookup(hints, key))?;
     }
     Ok(())
 }
 
-// Puts a record, unless its key is among the changed ones.
+// Puts a record, unless its key is among the changed ones, where the search for it begins at a hint.
 fn put_unchanged(
     alloc: Global,
     delta: &mut ForwardDelta,
     changed: &[(RecordKey, ())],
+    mut hint: usize,
     key: &RecordKey,
     items: &[ForwardItem],
 ) -> Result<(), AllocError>
     requires { T (is_sorted record_cmp changed.now) }
     ensures { OnOk result (delta.new ≡ cond (is_among key.now changed.now) delta.old (putting_record key.now items.now delta.old)) }
 {
-    if look_up(changed, key).is_some() {
+    if look_up_near(changed, &mut hint, key).is_some() {
         return Ok(());
     }
     put_record(alloc, delta, key, items)

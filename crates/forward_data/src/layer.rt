@@ -7,7 +7,7 @@ ghost use Rattle.forward_data.specs.Records.{record_key, left_by, records_of};
 
 use crate::combine::combined;
 use crate::{ForwardItem, ForwardItems, ForwardStack, RecordKey};
-use layer_base::{last_words, look_up};
+use layer_base::{last_words, look_up, look_up_near};
 use std::alloc::{AllocError, Global};
 use std::marker::Model;
 use uni_base::{EntityId, Rows};
@@ -125,6 +125,14 @@ impl ForwardLayer {
         ensures { option_map (λ r. r.now) result ≡ finite.get self.now key.now }
     {
         look_up(&self.rows, key)
+    }
+
+    // The same, by a search that begins at a hint. Keys that are asked for in their order are found
+    // at once.
+    pub(crate) fn record_near(&self, hint: &mut usize, key: &RecordKey) -> Option<&ForwardItems>
+        ensures { option_map (λ r. r.now) result ≡ finite.get self.now key.now }
+    {
+        look_up_near(&self.rows, hint, key)
     }
 }
 

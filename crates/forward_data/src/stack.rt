@@ -78,17 +78,23 @@ impl ForwardStack {
         ensures { result.now ≡ record_of (record_key type_no id) self.now.0 }
     {
         let key = RecordKey { type_no, id };
-        self.front_lookup(self.layers(), &key)
+        let mut newest: &[ForwardItem] = &[];
+        for i in 0..self.layers() {
+            newest = newer(newest, self.layer(i).record(&key));
+        }
+        newest
     }
 
-    // The newest record in the first `count` layers, empty where there is none.
-    pub(crate) fn front_lookup(&self, count: usize, key: &RecordKey) -> &[ForwardItem]
-        requires { count ≤ length self.now.0 }
-        ensures { result.now ≡ record_of key.now (take count self.now.0) }
+    // The newest record in the first layers, empty where there is none. There is a hint for each of
+    // the layers, at which its search begins.
+    pub(crate) fn front_lookup(&self, hints: &mut [usize], key: &RecordKey) -> &[ForwardItem]
+        requires { length hints.old ≤ length self.now.0 }
+        ensures record { result.now ≡ record_of key.now (take (length hints.old) self.now.0) }
+        ensures hints { length hints.new ≡ length hints.old }
     {
         let mut newest: &[ForwardItem] = &[];
-        for i in 0..count {
-            newest = newer(newest, self.layer(i).record(key));
+        for i in 0..hints.len() {
+            newest = newer(newest, self.layer(i).record_near(&mut hints[i], key));
         }
         newest
     }

@@ -4,3 +4,4 @@ pub mod LastWords
 pub mod Sorted
 pub mod Tables
 pub mod Rising
+pub mod Placed

@@ -4,9 +4,11 @@
 
 mod blocks;
 mod log;
+mod near;
 mod shared;
 #[cfg(test)]
 mod tests;
 
 pub use log::{keep_last_words, last_words, look_up, rises, rows_left};
+pub use near::look_up_near;
 pub use shared::SharedLayers;

@@ -20,6 +20,7 @@ use Rattle.posting_lists.proofs.Sections.{length-section}
 use Rattle.uni_base.specs.EdgeOrder.{key_cmp}
 use Rattle.uni_base.specs.declared.edge.Key.{Key}
 use Rattle.uni_base.specs.declared.edge.Key.TheVariants.{Id, Word}
+use Rattle.layer_base.proofs.Placed.{none_past}
 use Rattle.layer_base.proofs.Sorted.{sorted_at, less_from}
 use Rattle.layer_stack.specs.declared.directory.Span.{Span}
 use Rattle.layer_stack.specs.declared.place.Place.{Place}
@@ -89,11 +90,6 @@ has_at (s ∷ spans) (suc n) e at = by (eq_by_cmp term_cmp e.0 s.0) (has_at span
     by : (b : Bool) → is_some (span_of e.0 spans) ≡ true → is_some (cond b (Some s.1) (span_of e.0 spans)) ≡ true
     by true h = refl
     by false h = h
-
-none_past : {X : Type 0} (xs : List X) (n : ℕ) → slice_get xs n ≡ None → length xs ≤ n
-none_past [] n e = omega arith
-none_past (x ∷ xs) zero e = cc
-none_past (x ∷ xs) (suc n) e = omega (arith, none_past xs n e)
 
 not_true : (b : Bool) → not b ≡ true → b ≡ false
 not_true true e = cc

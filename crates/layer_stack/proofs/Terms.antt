@@ -27,7 +27,7 @@ use Rattle.layer_stack.specs.declared.place.Place.{Place}
 use Rattle.layer_stack.specs.declared.place.TermKey.{TermKey}
 use Rattle.layer_stack.specs.Places.{term_cmp, place_cmp}
 use Rattle.layer_stack.specs.Postings.{PostingTable, PostingChanges, is_under, place_of, posting_of, key_of, postings_of, deletes_of}
-use Rattle.layer_stack.specs.Stacks.{PartValue, entry_of, posting_at, part_changes, part_table, remaining_of}
+use Rattle.layer_stack.specs.Stacks.{PartValue, and_part, has_nothing, entry_of, posting_at, part_changes, part_table, remaining_of}
 use Rattle.layer_stack.proofs.Order.{term_total, place_total, place_apart}
 use Rattle.layer_base.proofs.Sorted.{both, first, second, is_eq-then, then_lt}
 use Rattle.layer_stack.proofs.Merged.{same_by_get, find-filter, get-part}
@@ -117,14 +117,14 @@ stack_more layers i layer at =
     ap stack_table (take_more layers i layer (slice_get_within layers i layer at) ∙ ap (λ x. take i layers ++ x ∷ []) (get_or_from_slice_get layers i layer layer at)) ∙ stack_over-append finite.empty (take i layers) (layer ∷ [])
 
 -- one part more
-pub part_pushed : (parts : List PartValue) (part : PartValue) (k : DocKey)
+part_pushed : (parts : List PartValue) (part : PartValue) (k : DocKey)
     → finite.get (part_table (parts ++ part ∷ [])) k ≡ either (find doc_cmp k (map entry_of part.1)) (cond (has_key part.0 k) None (finite.get (part_table parts) k))
 part_pushed parts part k =
     ap (λ changes. finite.get (stack_table changes) k) (map-append part_changes parts (part ∷ []))
     ∙ ap (λ table. finite.get table k) (stack_over-append finite.empty (map part_changes parts) (part_changes part ∷ [])) ∙ get-part (part_table parts) part k
 
 -- a part with nothing in it
-pub part_skipped : (ds : List DocKey) (ps : List Posting) (k : DocKey) (older : Option Audience) → ((length ds == 0) && (length ps == 0)) ≡ true → either (find doc_cmp k (map entry_of ps)) (cond (has_key ds k) None older) ≡ older
+part_skipped : (ds : List DocKey) (ps : List Posting) (k : DocKey) (older : Option Audience) → ((length ds == 0) && (length ps == 0)) ≡ true → either (find doc_cmp k (map entry_of ps)) (cond (has_key ds k) None older) ≡ older
 part_skipped [] [] k older e = refl
 part_skipped [] (p ∷ ps) k older e = let none : length (p ∷ ps) ≡ 0 = eqb-true (length (p ∷ ps)) 0 e in absurd (omega arith)
 part_skipped (d ∷ ds) ps k older e = let none : length (d ∷ ds) ≡ 0 = eqb-true (length (d ∷ ds)) 0 (and_first (length (d ∷ ds) == 0) (length ps == 0) e) in absurd (omega arith)
@@ -132,6 +132,24 @@ part_skipped (d ∷ ds) ps k older e = let none : length (d ∷ ds) ≡ 0 = eqb-
     and_first : (a b : Bool) → (a && b) ≡ true → a ≡ true
     and_first true b h = refl
     and_first false b h = cc
+
+and_part_table : (parts : List PartValue) (part : PartValue) (k : DocKey)
+    → finite.get (part_table (and_part parts part)) k ≡ either (find doc_cmp k (map entry_of part.1)) (cond (has_key part.0 k) None (finite.get (part_table parts) k))
+and_part_table parts part k = by (has_nothing part) refl
+  where
+    by : (b : Bool) → has_nothing part ≡ b
+        → finite.get (part_table (cond b parts (parts ++ part ∷ []))) k ≡ either (find doc_cmp k (map entry_of part.1)) (cond (has_key part.0 k) None (finite.get (part_table parts) k))
+    by true e = sym (part_skipped part.0 part.1 k (finite.get (part_table parts) k) e)
+    by false e = part_pushed parts part k
+
+-- parts of some layers, and that of one layer more
+pub layer_more : (t : TermKey) (layers : List PostingChanges) (i : ℕ) (layer : PostingChanges) (parts : List PartValue) (part : PartValue)
+    → slice_get layers i ≡ Some layer → part ≡ (deletes_of t layer, postings_of t layer.puts)
+    → ((k : DocKey) → finite.get (part_table parts) k ≡ finite.get (stack_table (take i layers)) (place_of t k))
+    → (k : DocKey) → finite.get (part_table (and_part parts part)) k ≡ finite.get (stack_table (take (i + 1) layers)) (place_of t k)
+layer_more t layers i layer parts part at is alike k =
+    and_part_table parts part k ∙ (λ j. either (find doc_cmp k (map entry_of (is j).1)) (cond (has_key (is j).0 k) None (alike k j)))
+    ∙ sym (ap (λ m. finite.get m (place_of t k)) (stack_more layers i layer at) ∙ get-layer t k (stack_table (take i layers)) layer)
 
 -- ---- one layer alone
 

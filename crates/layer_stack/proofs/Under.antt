@@ -1,5 +1,5 @@
 -- The rows of one term among rows that are laid out by terms.
-use Rattle.std.proofs.Common.{◌≡◌, Bool, true, false, cond, List, [], ◌∷◌, ◌++◌, map, filter, length, None, Some, refl, sym, ◌∙◌, ap, subst, All}
+use Rattle.std.proofs.Common.{◌≡◌, ℕ, ◌<◌, ◌≤◌, Bool, true, false, cond, List, [], ◌∷◌, ◌++◌, map, filter, length, Option, None, Some, IfSome, refl, sym, ◌∙◌, ap, subst, arith, All}
 use Rattle.std.specs.Cmp.{Equal-is}
 use Rattle.std.specs.Prelude.{T}
 use Rattle.std.specs.FinMap as finite
@@ -94,6 +94,14 @@ found_holds Q t (d ∷ spans) s all e =
       | true ↦ λ f. subst Q (ap (λ o. unwrap_or o s) f) (All-head (λ (x : TermKey × Span). Q x.1) d spans all)
       | false ↦ λ f. found_holds Q t spans s (All-tail (λ (x : TermKey × Span). Q x.1) d spans all) f
     ] e
+
+-- the span of a term is within the rows
+pub span_within : (rows : ℕ) (t : TermKey) (spans : List (TermKey × Span)) → All (λ e. (e.1.from < e.1.to) × (e.1.to ≤ rows)) spans → IfSome (span_of t spans) (λ s. (s.from ≤ s.to) × (s.to ≤ rows))
+span_within rows t spans all = by (span_of t spans) refl
+  where
+    by : (o : Option Span) → span_of t spans ≡ o → IfSome o (λ s. (s.from ≤ s.to) × (s.to ≤ rows))
+    by None e = tt
+    by (Some s) e = let within = found_holds (λ x. (x.from < x.to) × (x.to ≤ rows)) t spans s all e in (omega (arith, within.0), within.1)
 
 -- ---- what a layer has under a term
 

@@ -1,6 +1,6 @@
 -- What a stack has under one term: the deleted keys and the postings of each layer that has the
 -- term, the oldest first.
-use Rattle.std.specs.Prelude.{◌≡◌, Bool, false, Option, None, Some, List, [], ◌∷◌, ◌++◌, map, filter, All, cond}
+use Rattle.std.specs.Prelude.{◌≡◌, Bool, false, Option, None, Some, List, [], ◌∷◌, ◌++◌, ◌==◌, ◌&&◌, length, map, filter, All, cond}
 use Rattle.std.specs.List.{slice_get}
 use Rattle.std.specs.Ordering.{is_eq}
 use Rattle.std.specs.FinMap as finite
@@ -20,6 +20,13 @@ PartValue = List DocKey × List Posting
 abbrev pub and_newest : List PartValue → Option PartValue → List PartValue
 and_newest older None = older
 and_newest older (Some newest) = older ++ newest ∷ []
+
+-- with what one more layer has, if it has anything
+abbrev pub has_nothing : PartValue → Bool
+has_nothing part = (length part.0 == 0) && (length part.1 == 0)
+
+abbrev pub and_part : List PartValue → PartValue → List PartValue
+and_part parts part = cond (has_nothing part) parts (parts ++ part ∷ [])
 
 -- a posting as an entry at its key
 abbrev pub entry_of : Posting → DocKey × Audience

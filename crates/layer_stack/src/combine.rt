@@ -5,16 +5,16 @@ ghost use Rattle.std.specs.FinMap.{is_sorted};
 ghost use Rattle.posting_lists.specs.Postings.{section};
 ghost use Rattle.layer_base.specs.Layers.{stack_table};
 ghost use Rattle.layer_stack.specs.Places.{term_cmp};
-ghost use Rattle.layer_stack.specs.Postings.{postings_of, putting_all, putting_list};
+ghost use Rattle.layer_stack.specs.Postings.{putting_all, putting_list};
 ghost use Rattle.layer_stack.specs.Spans.{spanned, IsSpans};
-ghost use Rattle.layer_stack.specs.Combined.{AreChanged, is_among, putting_terms, StandsAlone};
+ghost use Rattle.layer_stack.specs.Combined.{AreChanged, is_among, StandsAlone};
 
 use crate::directory::{Directory, Span};
+use crate::front::FrontReader;
 use crate::{Delta, Stack, TermKey};
-use layer_base::{last_words, look_up};
+use layer_base::{last_words, look_up_near};
 use posting_lists::PostingColumns;
 use std::alloc::{AllocError, Global};
-use uni_base::DocCursor;
 
 // The terms at which layers after the oldest one, up to a count, delete or put: in order, each once.
 pub(crate) fn changed_terms(
@@ -48,15 +48,16 @@ pub(crate) fn combined(
     requires alone { StandsAlone changed.now directory.now postings.now (stack_table (take count stack.now.0)) }
     ensures { IfOk result (λ delta. delta ≡ putting_all (stack_table (take count stack.now.0))) }
 {
+    let mut front = FrontReader::of(alloc, stack, count)?;
     let mut delta = Delta::new(alloc);
     let mut at = 0;
     for (term, span) in directory.iter() {
         let to = passed(changed, at, term);
-        put_terms(alloc, &mut delta, stack, count, &changed[at..to])?;
-        put_unchanged(&mut delta, changed, term, postings, *span)?;
+        front.put_terms(&mut delta, &changed[at..to])?;
+        put_unchanged(&mut delta, changed, at, term, postings, *span)?;
         at = to;
     }
-    put_terms(alloc, &mut delta, stack, count, &changed[at..changed.len()])?;
+    front.put_terms(&mut delta, &changed[at..changed.len()])?;
     Ok(delta)
 }
 
@@ -73,46 +74,12 @@ fn passed(terms: &[(TermKey, ())], from: usize, term: &TermKey) -> usize
     terms.len()
 }
 
-// Puts what the first layers of a stack have under some terms.
-fn put_terms(
-    alloc: Global,
-    delta: &mut Delta,
-    stack: &Stack,
-    count: usize,
-    terms: &[(TermKey, ())],
-) -> Result<(), AllocError>
-    requires { count ≤ length stack.now.0 }
-    ensures { OnOk result (delta.new ≡ putting_terms (stack_table (take count stack.now.0)) terms.now delta.old) }
-{
-    for (term, _nothing) in terms {
-        put_term(alloc, delta, stack, count, term)?;
-    }
-    Ok(())
-}
-
-// Puts what the first layers of a stack have under a term.
-fn put_term(
-    alloc: Global,
-    delta: &mut Delta,
-    stack: &Stack,
-    count: usize,
-    term: &TermKey,
-) -> Result<(), AllocError>
-    requires { count ≤ length stack.now.0 }
-    ensures { OnOk result (delta.new ≡ putting_list term.now (postings_of term.now (stack_table (take count stack.now.0))) delta.old) }
-{
-    let mut cursor = stack.front_cursor(alloc, count, term)?;
-    while let Some(posting) = cursor.posting() {
-        delta.put(*term, posting)?;
-        cursor.step();
-    }
-    Ok(())
-}
-
-// Puts the postings of a span, unless their term is among the changed ones.
+// Puts the postings of a span, unless their term is among the changed ones, where the search for it
+// begins at a hint.
 fn put_unchanged(
     delta: &mut Delta,
     changed: &[(TermKey, ())],
+    mut hint: usize,
     term: &TermKey,
     postings: &PostingColumns,
     span: Span,
@@ -121,7 +88,7 @@ fn put_unchanged(
     requires within { (span.from ≤ span.to) × (span.to ≤ length postings.now) }
     ensures { OnOk result (delta.new ≡ cond (is_among term.now changed.now) delta.old (putting_list term.now (spanned span postings.now) delta.old)) }
 {
-    if look_up(changed, term).is_some() {
+    if look_up_near(changed, &mut hint, term).is_some() {
         return Ok(());
     }
     put_span(delta, term, postings, span)

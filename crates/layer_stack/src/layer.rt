@@ -1,14 +1,16 @@
-ghost use Rattle.std.specs.Prelude.{◌≡◌, ◌<◌, ◌≤◌, ◌+◌, ◌^◌, ◌||◌, Some, take, length, IfOk, OnOk};
+ghost use Rattle.std.specs.Prelude.{◌≡◌, ◌<◌, ◌≤◌, ◌+◌, ◌^◌, ◌||◌, Some, take, length, IfOk, IfSome, OnOk};
 ghost use Rattle.std.specs.List.{slice_get};
-ghost use Rattle.posting_lists.specs.Postings.{section};
+ghost use Rattle.posting_lists.specs.Postings.{keys_of, section};
 ghost use Rattle.uni_base.specs.Cursors.{IsRanked};
 ghost use Rattle.layer_base.specs.Layers.{stack_table};
 ghost use Rattle.layer_stack.specs.Combined.{AreChanged, is_among};
 ghost use Rattle.layer_stack.specs.Postings.{postings_of, deletes_of, entries_of, putting_all};
+ghost use Rattle.layer_stack.specs.Spans.{told};
 ghost use Rattle.layer_stack.specs.Words.{has_term, IsWordFrom};
 
 use crate::combine::combined;
-use crate::directory::{Directory, part};
+use crate::directory::{Directory, Span, keys_at};
+use crate::part::Part;
 use crate::settle::{settle_keys, settle_postings};
 use crate::words::earlier;
 use crate::{Delta, Stack, TermKey};
@@ -20,6 +22,20 @@ use uni_base::{DocKey, Steps, Word};
 
 /// How many deletes, and how many puts, a layer has at most.
 const MOST_ROWS: usize = 1 << 61;
+
+/// Where searches for a term begin in a layer: among the terms at which it deletes, and among those
+/// at which it puts.
+#[derive(Clone, Copy)]
+pub(crate) struct Hints {
+    pub(crate) deletes: usize,
+    pub(crate) puts: usize,
+}
+
+/// Hints at the first terms.
+pub(crate) const START: Hints = Hints {
+    deletes: 0,
+    puts: 0,
+};
 
 /// A layer of a stack of postings: the postings that it deletes, and those that it puts. The
 /// postings of all terms lie in one row of columns, and so do the deleted keys.
@@ -99,25 +115,26 @@ impl Layer {
         earlier(deleted, put)
     }
 
-    // The postings that it puts under a term.
-    pub(crate) fn postings(&self, term: &TermKey) -> ListCursor<'_>
-        ensures { result ≡ postings_of term.now self.now.puts }
+    // What it deletes and puts under a term.
+    pub(crate) fn part(&self, term: &TermKey) -> Part<'_>
+        ensures { result ≡ (deletes_of term.now self.now, postings_of term.now self.now.puts) }
     {
-        match self.puts.span(term) {
-            Some(span) => self.postings.section(span.from, span.to),
-            None => self.postings.section(0, 0),
-        }
+        let deletes = keys_at(&self.deleted, self.deletes.span(term));
+        let puts = list_at(&self.postings, self.puts.span(term));
+        Part::new(deletes, puts)
     }
 
-    // The keys that it deletes under a term, in rank order.
-    pub(crate) fn deleted(&self, term: &TermKey) -> &[DocKey]
-        ensures deleted { result.now ≡ deletes_of term.now self.now }
-        ensures ranked { IsRanked result.now }
+    // The same, by searches that begin at hints. Terms that are asked for in their order are found at
+    // once.
+    pub(crate) fn part_near(&self, hints: &mut Hints, term: &TermKey) -> Part<'_>
+        ensures { result ≡ (deletes_of term.now self.now, postings_of term.now self.now.puts) }
     {
-        match self.deletes.span(term) {
-            Some(span) => part(&self.deleted, span),
-            None => &[],
-        }
+        let deletes = keys_at(
+            &self.deleted,
+            self.deletes.span_near(&mut hints.deletes, term),
+        );
+        let puts = list_at(&self.postings, self.puts.span_near(&mut hints.puts, term));
+        Part::new(deletes, puts)
     }
 
     // Adds the terms at which it deletes or puts to a list.
@@ -143,5 +160,17 @@ impl Layer {
         ensures { IfOk result (λ delta. delta ≡ putting_all (stack_table (take count stack.now.0))) }
     {
         combined(alloc, stack, count, changed, &self.puts, &self.postings)
+    }
+}
+
+// The list that a span tells of columns, empty where there is no span.
+fn list_at(postings: &PostingColumns, span: Option<Span>) -> ListCursor<'_>
+    requires within { IfSome span (λ s. (s.from ≤ s.to) × (s.to ≤ length postings.now)) }
+    requires ranked { IsRanked (keys_of (told span postings.now)) }
+    ensures { result ≡ told span postings.now }
+{
+    match span {
+        Some(span) => postings.section(span.from, span.to),
+        None => postings.section(0, 0),
     }
 }

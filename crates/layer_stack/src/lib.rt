@@ -7,6 +7,7 @@ mod combine;
 mod cursor;
 mod delta;
 mod directory;
+mod front;
 mod layer;
 mod merge;
 mod merging;

@@ -1,4 +1,5 @@
 ghost use Rattle.std.specs.Prelude.{◌≡◌, ◌++◌, ◌∷◌, [], OnOk};
+ghost use Rattle.layer_stack.specs.Stacks.{and_part};
 
 use crate::part::Part;
 use std::alloc::{AllocError, Global};
@@ -31,8 +32,17 @@ impl<'a> Parts<'a> {
         }
     }
 
-    // Adds what a newer layer has.
-    pub(crate) fn push(&mut self, part: Part<'a>) -> Result<(), AllocError>
+    // Adds what a newer layer has, if it has anything.
+    pub(crate) fn add(&mut self, part: Part<'a>) -> Result<(), AllocError>
+        ensures { OnOk result (self.new ≡ and_part self.old part.entry) }
+    {
+        if part.is_empty() {
+            return Ok(());
+        }
+        self.push(part)
+    }
+
+    fn push(&mut self, part: Part<'a>) -> Result<(), AllocError>
         ensures { OnOk result (self.new ≡ self.old ++ part.entry ∷ []) }
     {
         if let Some(newest) = self.newest.replace(part) {
@@ -40,4 +50,14 @@ impl<'a> Parts<'a> {
         }
         Ok(())
     }
+}
+
+// Adds what a newer layer has, if it has anything.
+pub(crate) fn add_part<'a>(parts: &mut Vec<Part<'a>>, part: Part<'a>) -> Result<(), AllocError>
+    ensures { OnOk result (parts.new.items ≡ and_part parts.old.items part.entry) }
+{
+    if !part.is_empty() {
+        parts.push(part)?;
+    }
+    Ok(())
 }

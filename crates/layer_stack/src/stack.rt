@@ -5,14 +5,13 @@ ghost use Rattle.layer_base.specs.Layers.{stack_table};
 ghost use Rattle.layer_stack.specs.Postings.{postings_of, place_of, putting_all};
 
 use crate::combine::changed_terms;
-use crate::part::Part;
 use crate::parts::Parts;
 use crate::{Delta, Layer, StackCursor, TermKey};
 use layer_base::SharedLayers;
 use std::alloc::{AllocError, Global};
 use std::marker::Model;
 use std::sync::Arc;
-use uni_base::{Audience, DocCursor, DocKey};
+use uni_base::{Audience, DocKey};
 
 /// Layers of postings, the oldest first, which other stacks may share. Contracts see the layers,
 /// and how many more it has room for.
@@ -95,11 +94,7 @@ impl Stack {
     {
         let mut parts = Parts::new(alloc);
         for i in 0..count {
-            let layer = self.layer(i);
-            let part = Part::new(layer.deleted(term), layer.postings(term));
-            if !part.is_empty() {
-                parts.push(part)?;
-            }
+            parts.add(self.layer(i).part(term))?;
         }
         StackCursor::over(parts)
     }
@@ -110,10 +105,9 @@ impl Stack {
     {
         let mut answer = None;
         for i in 0..self.layers() {
-            let layer = self.layer(i);
-            let mut puts = layer.postings(term);
-            puts.seek(key);
-            answer = Part::new(layer.deleted(term), puts).over(answer, &key);
+            let mut part = self.layer(i).part(term);
+            part.seek(key);
+            answer = part.over(answer, &key);
         }
         answer
     }

@@ -1,4 +1,4 @@
-use Rattle.std.proofs.Common.{◌≤◌, length, take}
+use Rattle.std.proofs.Common.{◌≡◌, ◌≤◌, length, take}
 use Rattle.forward_data.specs.Records.{records_of}
 use Rattle.forward_data.proofs.Combined.{Has, is_done}
 use Rattle.forward_data.proofs.combine.combined.Given as goal
@@ -6,5 +6,6 @@ use Rattle.forward_data.proofs.combine.combined.Given as goal
 abbrev pub invariant-loop-key : goal.invariant-loop-key
 invariant-loop-key l = record {
   within : l.at ≤ length l.changed;
+  hints : length l.hints.items ≡ l.count;
   has : Has (records_of (take l.count l.stack.0)) (is_done l.changed l.at (take l.key-index l.rows)) l.delta;
 }

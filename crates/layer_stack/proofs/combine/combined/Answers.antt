@@ -17,6 +17,7 @@ loop-term-init c =
     let table = stack_table (take c.args.count c.args.stack.now.0) in
     record {
       within = omega arith;
+      front = c.in_ok-front.ensures {u = tt};
       has = subst (λ (d : PostingChanges). Has table (is_done c.args.changed.now 0 []) d) (sym c.new-delta.ensures) (done_start table c.args.changed.now);
     }
 
@@ -38,11 +39,13 @@ loop-term-preserved c =
     let turn = YieldsList-turn road c.loop-term.yielded c.loop-term.term-iterator c.loop-term.yielded_by _ c.next.new.self (c.in-Some.term, c.in-Some.span) c.in-Some.is c.next.ensures.steps in
     let alone : is_among e.0 changed ≡ false → spanned e.1 ps ≡ postings_of e.0 table =
     λ none. ap (λ o. told o ps) (sym (span_there directory (length c.loop-term.yielded) e c.requires.spans.sorted turn.0 turn.1)) ∙ c.requires.alone e.0 none in
-    let terms : c1 ≡ putting_terms table (section at to changed) c.loop-term.delta = c.in_ok-put_terms.ensures {u = tt} in
+    let terms : c1 ≡ putting_terms table (section at to changed) c.loop-term.delta =
+    c.in_ok-put_terms.ensures.put ∙ ap (λ (layers : List PostingChanges). putting_terms (stack_table layers) (section at to changed) c.loop-term.delta) c.loop-term.invariant.front in
     let has = subst (λ (d : PostingChanges). Has table (is_done changed to spans) d) (sym terms) (done_terms table changed at to spans c.loop-term.delta c.passed-to.ensures.0 c.passed-to.ensures.1 c.loop-term.invariant.has) in
     let more = sym (map-append (deref_pair {K = TermKey} {X = Span}) c.loop-term.yielded ((c.in-Some.term, c.in-Some.span) ∷ [])) in
     record {
       within = c.passed-to.ensures.1;
+      front = c.put_terms.ensures.same ∙ c.loop-term.invariant.front;
       has = subst (λ (d : PostingChanges). Has table (is_done changed to (map deref_pair (c.loop-term.yielded ++ (c.in-Some.term, c.in-Some.span) ∷ []))) d) (sym (c.in_ok-put_unchanged.ensures {u = tt}))
           (subst (λ (ss : List (TermKey × Span)). Has table (is_done changed to ss) (cond (is_among e.0 changed) c1 (putting_list e.0 (spanned e.1 ps) c1))) more
           (done_span table changed to spans e (spanned e.1 ps) c1 alone has));
@@ -55,7 +58,8 @@ returns c =
     let start : c.into_iter-term-iterator.result ≡ directory = search rules in
     let road = YieldsList-from_rest {shows = deref_pair {K = TermKey} {X = Span}} {s = c.into_iter-term-iterator.result} directory start in
     let end = YieldsList-end road c.loop-term.yielded c.loop-term.term-iterator c.loop-term.yielded_by _ c.next.new.self c.in-None.is c.next.ensures.steps in
-    let terms : c.put_terms-2.new.delta ≡ putting_terms table (section at all changed) c.loop-term.delta = c.in_ok-put_terms-2.ensures {u = tt} in
+    let terms : c.put_terms-2.new.delta ≡ putting_terms table (section at all changed) c.loop-term.delta =
+    c.in_ok-put_terms-2.ensures.put ∙ ap (λ (layers : List PostingChanges). putting_terms (stack_table layers) (section at all changed) c.loop-term.delta) c.loop-term.invariant.front in
     let has = subst (λ (d : PostingChanges). Has table (is_done changed all spans) d) (sym terms) (done_terms table changed at all spans c.loop-term.delta c.loop-term.invariant.within (omega arith) c.loop-term.invariant.has) in
     all_done table changed all directory ps c.put_terms-2.new.delta (take_all all changed (omega arith)) c.requires.alone
     (subst (λ (ss : List (TermKey × Span)). Has table (is_done changed all ss) c.put_terms-2.new.delta) end.0 has)

@@ -1,18 +1,14 @@
-use Rattle.std.proofs.Common.{rules, arith, ◌≡◌, ◌++◌, ◌∷◌, [], None, cond, true, ◌==◌, ◌&&◌, List, take, length, map, ap, ◌∙◌, sym, subst}
+use Rattle.std.proofs.Common.{rules, arith, ◌≡◌, List, take, ap, ◌∙◌, sym, subst}
 use Rattle.std.specs.FinMap as finite
-use Rattle.std.specs.FinMap.Entries.{find}
 use Rattle.uni_base.specs.RankOrder.{doc_cmp}
-use Rattle.uni_base.specs.KeySets.{has_key}
-use Rattle.layer_base.specs.Lookups.{either}
 use Rattle.layer_base.specs.Layers.{stack_table}
 use Rattle.layer_stack.specs.Places.{place_cmp}
 use Rattle.layer_stack.specs.Postings.{place_of, postings_of, deletes_of}
 use Rattle.std.specs.Result.{IfOk}
 use Rattle.posting_lists.specs.declared.posting.Posting.{Posting}
-use Rattle.layer_stack.specs.Stacks.{PartValue, entry_of, part_table, remaining_of}
-use Rattle.layer_stack.proofs.Terms.{get-layer, stack_more, parts_stand, part_pushed, part_skipped}
+use Rattle.layer_stack.specs.Stacks.{part_table, remaining_of}
+use Rattle.layer_stack.proofs.Terms.{layer_more, parts_stand}
 use Rattle.layer_stack.proofs.stack.Stack.front_cursor.Goals as goal
-use Rattle.layer_stack.proofs.stack.Stack.front_cursor.Goals.{then-not-is_empty+in_ok-push, else-not-is_empty}
 
 pub loop-i-init : goal.loop-i-init
 loop-i-init c k =
@@ -20,26 +16,11 @@ loop-i-init c k =
 
 pub loop-i-preserved : goal.loop-i-preserved
 loop-i-preserved c k =
-    let layers = c.args.self.now.0 in let i = c.loop-i.i in let t = c.args.term.now in
-    let layer = c.layer-layer.result.now.value in let parts = c.loop-i.parts in
-    let first : c.deref.result.now ≡ layer = search rules in
-    let second : c.deref-in-loop-i.result.now ≡ layer = search rules in
-    let deletes = c.deleted.ensures.deleted ∙ ap (deletes_of t) first in
-    let puts = c.postings.ensures ∙ ap (λ l. postings_of t l.puts) second in
-    let part : c.new-part.result ≡ (deletes_of t layer, postings_of t layer.puts) = c.new-part.ensures ∙ (λ j. (deletes j, puts j)) in
-    let table = ap (λ m. finite.get m (place_of t k)) (stack_more layers i layer c.layer-layer.ensures) ∙ get-layer t k (stack_table (take i layers)) layer in
-    elim c.if-not-is_empty.branch [
-      | then-not-is_empty+in_ok-push w ↦
-          let pushed : c.if-not-is_empty.parts ≡ parts ++ c.new-part.result ∷ [] = search rules in
-          ap (λ ps. finite.get (part_table ps) k) pushed ∙ part_pushed parts c.new-part.result k
-          ∙ (λ j. either (find doc_cmp k (map entry_of (part j).1)) (cond (has_key (part j).0 k) None (c.loop-i.invariant k j))) ∙ sym table
-      | else-not-is_empty w ↦
-          let kept : c.if-not-is_empty.parts ≡ parts = search rules in
-          let empty : ((length c.new-part.result.0 == 0) && (length c.new-part.result.1 == 0)) ≡ true = search rules in
-          let none = subst (λ (p : PartValue). ((length p.0 == 0) && (length p.1 == 0)) ≡ true) part empty in
-          ap (λ ps. finite.get (part_table ps) k) kept ∙ c.loop-i.invariant k
-          ∙ sym (table ∙ part_skipped (deletes_of t layer) (postings_of t layer.puts) k (finite.get (stack_table (take i layers)) (place_of t k)) none)
-    ]
+    let layers = c.args.self.now.0 in let t = c.args.term.now in let layer = c.layer.result.now.value in
+    let is : c.deref.result.now ≡ layer = search rules in
+    let part : c.part.result ≡ (deletes_of t layer, postings_of t layer.puts) = c.part.ensures ∙ ap (λ l. (deletes_of t l, postings_of t l.puts)) is in
+    ap (λ ps. finite.get (part_table ps) k) (c.in_ok-add.ensures {u = tt})
+    ∙ layer_more t layers c.loop-i.i layer c.loop-i.parts c.part.result c.layer.ensures part c.loop-i.invariant k
 
 pub returns : goal.returns
 returns c =
