@@ -2,14 +2,15 @@
 use Rattle.std.specs.Prelude.{◌≡◌, Bool, false, List, [], ◌∷◌, is_some, All, T}
 use Rattle.std.specs.List.{list_any}
 use Rattle.std.specs.FinMap as finite
-use Rattle.std.specs.FinMap.{is_sorted, find}
+use Rattle.std.specs.FinMap.{is_sorted}
+use Rattle.layer_base.specs.Among as among
 use Rattle.forward_data.specs.declared.record.ForwardItem.{ForwardItem}
 use Rattle.forward_data.specs.declared.record.RecordKey.{RecordKey}
 use Rattle.forward_data.specs.Records.{Records, record_cmp, record_of}
 
 -- whether a key is among those of a list
 abbrev pub is_among : {X : Type 0} → RecordKey → List (RecordKey × X) → Bool
-is_among key es = is_some (find record_cmp key es)
+is_among = among.is_among record_cmp
 
 -- whether one of the layers has a record at a key
 abbrev pub is_changed : RecordKey → List Records → Bool
@@ -34,7 +35,3 @@ putting_records layers (e ∷ es) records = putting_records layers es (putting_r
 pub record StandAlone (changed : List (RecordKey × Unit {0})) (rows : List (RecordKey × List ForwardItem)) (layers : List Records) : Type 0 where
   pub each : All (λ e. is_among e.0 changed ≡ false → e.1 ≡ record_of e.0 layers) rows
   pub none : (k : RecordKey) → is_among k changed ≡ false → is_among k rows ≡ false → record_of k layers ≡ []
-
--- a key of an entry, alone
-abbrev pub bare : {X : Type 0} → RecordKey × X → RecordKey × Unit {0}
-bare e = (e.0, tt)

@@ -2,7 +2,8 @@ ghost use Rattle.std.specs.Prelude.{◌≡◌, ◌<◌, ◌≤◌, ◌^◌, ◌+
 ghost use Rattle.std.specs.List.{slice_get};
 ghost use Rattle.std.specs.FinMap as finite;
 ghost use Rattle.std.specs.Option.{option_map};
-ghost use Rattle.forward_data.specs.Combined.{AreChanged, bare};
+ghost use Rattle.layer_base.specs.Among.{bare};
+ghost use Rattle.forward_data.specs.Combined.{AreChanged};
 ghost use Rattle.forward_data.specs.Records.{record_key, left_by, records_of};
 
 use crate::combine::combined;

@@ -5,3 +5,4 @@ pub mod Sorted
 pub mod Tables
 pub mod Rising
 pub mod Placed
+pub mod Among

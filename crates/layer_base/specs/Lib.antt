@@ -2,3 +2,4 @@ pub mod Layers
 pub mod Changes
 pub mod Shared
 pub mod Lookups
+pub mod Among

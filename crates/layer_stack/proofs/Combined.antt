@@ -1,5 +1,5 @@
 -- Postings put term by term, by look-ups.
-use Rattle.std.proofs.Common.{◌≡◌, ℕ, zero, suc, ◌+◌, ◌-◌, ◌<◌, ◌≤◌, Bool, true, false, cond, not, ◌&&◌, ◌||◌, List, [], ◌∷◌, ◌++◌, map, filter, take, drop, length, get_or, reverse, slice_get, Option, None, Some, refl, sym, ◌∙◌, ap, subst, is_some, arith}
+use Rattle.std.proofs.Common.{◌≡◌, ℕ, zero, suc, ◌+◌, ◌-◌, ◌<◌, ◌≤◌, Bool, true, false, cond, ◌||◌, List, [], ◌∷◌, ◌++◌, map, filter, take, drop, length, get_or, reverse, slice_get, Option, None, Some, refl, sym, ◌∙◌, ap, subst, is_some, arith}
 use Rattle.std.specs.Cmp.{Equal-is}
 use Rattle.std.specs.Prelude.{T}
 use Rattle.std.specs.List.{list_any}
@@ -20,8 +20,8 @@ use Rattle.posting_lists.specs.declared.posting.Posting.{Posting}
 use Rattle.posting_lists.specs.Postings.{section}
 use Rattle.layer_base.specs.Lookups.{either}
 use Rattle.layer_base.specs.Layers.{from_log, put_all, layer_over, stack_over, stack_table}
-use Rattle.layer_base.proofs.Changes.{find-append}
-use Rattle.layer_base.proofs.Frozen.{take-add}
+use Rattle.layer_base.proofs.Among.{among-append, among_noted, among_first, is_done, done_further, done_skipped, done_copied, done_whole, or_false, or_nothing, or_assoc}
+use Rattle.layer_base.specs.Among.{bare}
 use Rattle.layer_base.proofs.Rising.{log_sorted}
 use Rattle.layer_base.proofs.Sorted.{find_at}
 use Rattle.layer_base.proofs.Tables.{get-put_all, get-layer_over}
@@ -118,94 +118,27 @@ has_list table done t c has = record {
 has_terms : (table : PostingTable) (es : List (TermKey × Unit {0})) (done : TermKey → Bool) (c : PostingChanges) → Has table done c → Has table (λ s. is_among s es || done s) (putting_terms table es c)
 has_terms table [] done c has = has_alike table done (λ s. is_among {X = Unit {0}} s [] || done s) c (λ s. refl) has
 has_terms table (e ∷ es) done c has =
-    has_alike table (λ s. is_among s es || (eq_by_cmp term_cmp s e.0 || done s)) (λ s. is_among s (e ∷ es) || done s) (putting_terms table (e ∷ es) c)
-    (λ s. by (eq_by_cmp term_cmp s e.0) (find term_cmp s es) (done s))
+    has_alike table (λ s. is_among s es || (eq_by_cmp term_cmp s e.0 || done s)) (λ s. is_among s (e ∷ es) || done s) (putting_terms table (e ∷ es) c) (λ s. among_first term_cmp s e es (done s))
     (has_terms table es (λ s. eq_by_cmp term_cmp s e.0 || done s) (putting_list e.0 (postings_of e.0 table) c) (has_list table done e.0 c has))
-  where
-    by : (a : Bool) (f : Option (Unit {0})) (d : Bool) → (is_some f || (a || d)) ≡ (is_some (cond a (Some e.1) f) || d)
-    by true None d = refl
-    by true (Some u) d = refl
-    by false f d = refl
 
-among-append : {X : Type 0} (s : TermKey) (xs ys : List (TermKey × X)) → is_among s (xs ++ ys) ≡ (is_among s xs || is_among s ys)
-among-append s xs ys = ap is_some (find-append term_cmp s xs ys) ∙ by (find term_cmp s xs) (find term_cmp s ys)
-  where
-    by : {X : Type 0} (a b : Option X) → is_some (either a b) ≡ (is_some a || is_some b)
-    by None b = refl
-    by (Some x) b = refl
-
--- the terms that are done: the changed ones up to a place, and, of those that the oldest layer puts, the others
-abbrev pub is_done : List (TermKey × Unit {0}) → ℕ → List (TermKey × Span) → TermKey → Bool
-is_done changed at spans s = is_among s (take at changed) || (is_among s spans && not (is_among s changed))
-
-pub done_start : (table : PostingTable) (changed : List (TermKey × Unit {0})) → Has table (is_done changed 0 []) no_changes
+pub done_start : (table : PostingTable) (changed : List (TermKey × Unit {0})) → Has table (is_done term_cmp {X = Span} changed 0 []) no_changes
 done_start table changed = record { deletes = refl; puts = λ q. finite.get-empty place_cmp q }
 
-pub done_terms : (table : PostingTable) (changed : List (TermKey × Unit {0})) (at to : ℕ) (spans : List (TermKey × Span)) (c : PostingChanges) → at ≤ to → to ≤ length changed → Has table (is_done changed at spans) c
-    → Has table (is_done changed to spans) (putting_terms table (section at to changed) c)
+pub done_terms : (table : PostingTable) (changed : List (TermKey × Unit {0})) (at to : ℕ) (spans : List (TermKey × Span)) (c : PostingChanges) → at ≤ to → to ≤ length changed → Has table (is_done term_cmp changed at spans) c
+    → Has table (is_done term_cmp changed to spans) (putting_terms table (section at to changed) c)
 done_terms table changed at to spans c le fits has =
-    has_alike table (λ s. is_among s (section at to changed) || is_done changed at spans s) (is_done changed to spans) (putting_terms table (section at to changed) c)
-    (λ s. by (is_among s (section at to changed)) (is_among s (take at changed)) (is_among s spans && not (is_among s changed))
-    ∙ ap (λ b. b || (is_among s spans && not (is_among s changed))) (sym (ap (is_among s) parts ∙ among-append s (take at changed) (section at to changed))))
-    (has_terms table (section at to changed) (is_done changed at spans) c has)
-  where
-    whole : at + (to - at) ≡ to
-    whole = omega (arith, le)
-
-    parts : take to changed ≡ take at changed ++ section at to changed
-    parts = ap (λ n. take n changed) (sym whole) ∙ take-add at (to - at) changed (omega (arith, le, fits))
-
-    by : (a b d : Bool) → (a || (b || d)) ≡ ((b || a) || d)
-    by true true d = refl
-    by true false d = refl
-    by false true d = refl
-    by false false d = refl
+    has_alike table (λ s. is_among s (section at to changed) || is_done term_cmp changed at spans s) (is_done term_cmp changed to spans) (putting_terms table (section at to changed) c)
+    (done_further term_cmp changed at to spans le fits) (has_terms table (section at to changed) (is_done term_cmp changed at spans) c has)
 
 pub done_span : (table : PostingTable) (changed : List (TermKey × Unit {0})) (to : ℕ) (spans : List (TermKey × Span)) (e : TermKey × Span) (ps : List Posting) (c : PostingChanges) → (is_among e.0 changed ≡ false → ps ≡ postings_of e.0 table)
-    → Has table (is_done changed to spans) c → Has table (is_done changed to (spans ++ e ∷ [])) (cond (is_among e.0 changed) c (putting_list e.0 ps c))
+    → Has table (is_done term_cmp changed to spans) c → Has table (is_done term_cmp changed to (spans ++ e ∷ [])) (cond (is_among e.0 changed) c (putting_list e.0 ps c))
 done_span table changed to spans e ps c alone has = by (is_among e.0 changed) refl
   where
-    among_more : (s : TermKey) → is_among s (spans ++ e ∷ []) ≡ (is_among s spans || eq_by_cmp term_cmp s e.0)
-    among_more s = among-append s spans (e ∷ []) ∙ ap (λ b. is_among s spans || b) (one (eq_by_cmp term_cmp s e.0))
-      where
-        one : (b : Bool) → is_some (cond b (Some e.1) None) ≡ b
-        one true = refl
-        one false = refl
-
-    same : (s : TermKey) (b : Bool) → is_among e.0 changed ≡ b → eq_by_cmp term_cmp s e.0 ≡ true → is_among s changed ≡ b
-    same s b is eq = let t : s ≡ e.0 = term_apart s e.0 ((Equal-is (term_cmp s e.0)).0 eq) in ap (λ (x : TermKey). is_among x changed) t ∙ is
-
-    skip : (x y f z : Bool) → (f ≡ true → z ≡ true) → (x || (y && not z)) ≡ (x || ((y || f) && not z))
-    skip true y f z h = refl
-    skip false true f z h = refl
-    skip false false true true h = refl
-    skip false false true false h = let no : false ≡ true = h refl in cc
-    skip false false false z h = refl
-
-    copy : (x y f z : Bool) → (f ≡ true → z ≡ false) → (f || (x || (y && not z))) ≡ (x || ((y || f) && not z))
-    copy true y true z h = refl
-    copy true y false z h = refl
-    copy false true true true h = let no : true ≡ false = h refl in cc
-    copy false true true false h = refl
-    copy false true false z h = refl
-    copy false false true true h = let no : true ≡ false = h refl in cc
-    copy false false true false h = refl
-    copy false false false z h = refl
-
-    by : (b : Bool) → is_among e.0 changed ≡ b → Has table (is_done changed to (spans ++ e ∷ [])) (cond b c (putting_list e.0 ps c))
-    by true is =
-        has_alike table (is_done changed to spans) (is_done changed to (spans ++ e ∷ [])) c
-        (λ s. skip (is_among s (take to changed)) (is_among s spans) (eq_by_cmp term_cmp s e.0) (is_among s changed) (same s true is)
-        ∙ ap (λ b. is_among s (take to changed) || (b && not (is_among s changed))) (sym (among_more s))) has
+    by : (b : Bool) → is_among e.0 changed ≡ b → Has table (is_done term_cmp changed to (spans ++ e ∷ [])) (cond b c (putting_list e.0 ps c))
+    by true is = has_alike table (is_done term_cmp changed to spans) (is_done term_cmp changed to (spans ++ e ∷ [])) c (done_skipped term_cmp term_apart changed to spans e is) has
     by false is =
-        has_alike table (λ s. eq_by_cmp term_cmp s e.0 || is_done changed to spans s) (is_done changed to (spans ++ e ∷ [])) (putting_list e.0 ps c)
-        (λ s. copy (is_among s (take to changed)) (is_among s spans) (eq_by_cmp term_cmp s e.0) (is_among s changed) (same s false is)
-        ∙ ap (λ b. is_among s (take to changed) || (b && not (is_among s changed))) (sym (among_more s)))
-        (subst (λ (qs : List Posting). Has table (λ s. eq_by_cmp term_cmp s e.0 || is_done changed to spans s) (putting_list e.0 qs c)) (sym (alone is)) (has_list table (is_done changed to spans) e.0 c has))
-
-none_of : {X : Type 0} (o : Option X) → is_some o ≡ false → o ≡ None
-none_of None e = refl
-none_of (Some x) e = cc
+        has_alike table (λ s. eq_by_cmp term_cmp s e.0 || is_done term_cmp changed to spans s) (is_done term_cmp changed to (spans ++ e ∷ [])) (putting_list e.0 ps c) (done_copied term_cmp term_apart changed to spans e is)
+        (subst (λ (qs : List Posting). Has table (λ s. eq_by_cmp term_cmp s e.0 || is_done term_cmp changed to spans s) (putting_list e.0 qs c)) (sym (alone is)) (has_list table (is_done term_cmp changed to spans) e.0 c has))
 
 -- a term without postings has nothing at any key
 none_at : (table : PostingTable) (q : Place) → [] ≡ postings_of q.term table → finite.get table q ≡ None
@@ -217,17 +150,17 @@ none_at table q none = get-under q.term q.key table ∙ ap (λ es. find doc_cmp 
 
 -- once all terms are done, the changes put the table
 pub all_done : (table : PostingTable) (changed : List (TermKey × Unit {0})) (to : ℕ) (spans : List (TermKey × Span)) (ps : List Posting) (c : PostingChanges) → take to changed ≡ changed → StandsAlone changed spans ps table
-    → Has table (is_done changed to spans) c → c ≡ putting_all table
+    → Has table (is_done term_cmp changed to spans) c → c ≡ putting_all table
 all_done table changed to spans ps c whole alone has = λ i. record { deletes = has.deletes i; puts = puts i }
   where
     at : (q : Place) → finite.get c.puts q ≡ finite.get table q
-    at q = has.puts q ∙ ap (λ xs. cond (is_among q.term xs || (is_among q.term spans && not (is_among q.term changed))) (finite.get table q) None) whole
-        ∙ by (is_among q.term changed) (span_of q.term spans) refl refl
+    at q = has.puts q ∙ by (is_among q.term changed) (span_of q.term spans) refl refl
       where
-        by : (b : Bool) (o : Option Span) → is_among q.term changed ≡ b → span_of q.term spans ≡ o → cond (b || (is_some o && not b)) (finite.get table q) None ≡ finite.get table q
-        by true o e f = refl
-        by false (Some s) e f = refl
-        by false None e f = sym (none_at table q (ap (λ o. told o ps) (sym f) ∙ alone q.term e))
+        by : (b : Bool) (o : Option Span) → is_among q.term changed ≡ b → span_of q.term spans ≡ o → cond (is_done term_cmp changed to spans q.term) (finite.get table q) None ≡ finite.get table q
+        by true o e f = ap (λ b. cond b (finite.get table q) None) (done_whole term_cmp changed to spans whole q.term true (is_some o) e (ap is_some f))
+        by false (Some s) e f = ap (λ b. cond b (finite.get table q) None) (done_whole term_cmp changed to spans whole q.term false true e (ap is_some f))
+        by false None e f =
+            ap (λ b. cond b (finite.get table q) None) (done_whole term_cmp changed to spans whole q.term false false e (ap is_some f)) ∙ sym (none_at table q (ap (λ o. told o ps) (sym f) ∙ alone q.term e))
 
     puts : c.puts ≡ table
     puts = finite.same_map place_total place_apart c.puts table at
@@ -241,10 +174,6 @@ filter_none p (x ∷ xs) none =
       | true ↦ λ e. cc
       | false ↦ λ e. filter_none p xs e
     ] none
-
-or_false : (a b : Bool) → (a || b) ≡ false → (a ≡ false) × (b ≡ false)
-or_false true b e = cc
-or_false false b e = (refl, e)
 
 get_unchanged : (t : TermKey) (k : DocKey) (layers : List PostingChanges) (table : PostingTable) → is_changed t layers ≡ false → finite.get (stack_over table layers) (place_of t k) ≡ finite.get table (place_of t k)
 get_unchanged t k [] table none = refl
@@ -289,55 +218,16 @@ oldest_alone layers count base changed spans ps at some are tells t none =
 
 -- ---- the terms that are changed
 
-abbrev pub bare : {X : Type 0} → TermKey × X → TermKey × Unit {0}
-bare e = (e.0, tt)
-
-pub among-bare : {X : Type 0} (t : TermKey) (es : List (TermKey × X)) → is_among t (map bare es) ≡ is_among t es
-among-bare t [] = refl
-among-bare t (e ∷ es) =
-    elim (eq_by_cmp term_cmp t e.0) as (λ b. is_some (cond b (Some tt) (find term_cmp t (map bare es))) ≡ is_some (cond b (Some e.1) (find term_cmp t es))) [
-      | true ↦ refl
-      | false ↦ among-bare t es
-    ]
-
-pub among_noted : {X : Type 0} (t : TermKey) (old : List (TermKey × Unit {0})) (es : List (TermKey × X)) → is_among t (old ++ map bare es) ≡ (is_among t old || is_among t es)
-among_noted t old es = among-append t old (map bare es) ∙ ap (λ b. is_among t old || b) (among-bare t es)
-
-or_assoc : (a b c : Bool) → ((a || b) || c) ≡ (a || (b || c))
-or_assoc true b c = refl
-or_assoc false b c = refl
-
 pub changed_more : (t : TermKey) (layers : List PostingChanges) (i : ℕ) (layer : PostingChanges) (old new : Bool) → 1 ≤ i → slice_get layers i ≡ Some layer → old ≡ is_changed t (section 1 i layers) → new ≡ (old || has_term t layer)
     → new ≡ is_changed t (section 1 (i + 1) layers)
 changed_more t layers i layer old new le at so_far adds =
     adds ∙ ap (λ b. b || has_term t layer) so_far
     ∙ sym (ap (is_changed t) (section_more 1 i layers layer le at) ∙ list_any-append (has_term t) (section 1 i layers) (layer ∷ []) ∙ ap (λ b. is_changed t (section 1 i layers) || b) (or_nothing (has_term t layer)))
-  where
-    or_nothing : (b : Bool) → (b || false) ≡ b
-    or_nothing true = refl
-    or_nothing false = refl
-
--- the last words on terms have the same terms
-pub among_last : (t : TermKey) (log : List (TermKey × Unit {0})) → is_among t (finite.entries (from_log {R = term_cmp} log)) ≡ is_among t log
-among_last t log =
-    ap is_some (sym (finite.get-entries (from_log {R = term_cmp} log) t) ∙ finite.get-from_entries term_total (reverse log) t) ∙ turned log
-  where
-    turned : (es : List (TermKey × Unit {0})) → is_among t (reverse es) ≡ is_among t es
-    turned [] = refl
-    turned (e ∷ es) =
-        ap (is_among t) (reverse-append (e ∷ []) es) ∙ among-append t (reverse es) (e ∷ []) ∙ ap (λ b. b || is_among t (e ∷ [])) (turned es)
-        ∙ by (eq_by_cmp term_cmp t e.0) (find term_cmp t es)
-      where
-        by : (b : Bool) (f : Option (Unit {0})) → (is_some f || is_some (cond b (Some e.1) None)) ≡ is_some (cond b (Some e.1) f)
-        by true None = refl
-        by true (Some u) = refl
-        by false None = refl
-        by false (Some u) = refl
 
 pub note_more : {X : Type 0} (t : TermKey) (terms : List (TermKey × Unit {0})) (yielded : List (TermKey × X)) (e : TermKey × X) (older : Bool) → is_among t terms ≡ (older || is_among t yielded)
     → is_among t (terms ++ bare e ∷ []) ≡ (older || is_among t (yielded ++ e ∷ []))
 note_more t terms yielded e older so_far =
-    among_noted t terms (e ∷ []) ∙ ap (λ b. b || is_among t (e ∷ [])) so_far ∙ or_assoc older (is_among t yielded) (is_among t (e ∷ [])) ∙ ap (λ b. older || b) (sym (among-append t yielded (e ∷ [])))
+    among_noted term_cmp t terms (e ∷ []) ∙ ap (λ b. b || is_among t (e ∷ [])) so_far ∙ or_assoc older (is_among t yielded) (is_among t (e ∷ [])) ∙ ap (λ b. older || b) (sym (among-append term_cmp t yielded (e ∷ [])))
 
 -- what the two directories of a layer note
 pub notes_both : (t : TermKey) (older first new deletes puts : Bool) → first ≡ (older || deletes) → new ≡ (first || puts) → new ≡ (older || (deletes || puts))

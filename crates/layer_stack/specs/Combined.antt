@@ -1,7 +1,8 @@
 -- What the oldest layers of a stack put together, term by term.
-use Rattle.std.specs.Prelude.{◌≡◌, Bool, false, List, [], ◌∷◌, is_some, T}
+use Rattle.std.specs.Prelude.{◌≡◌, Bool, false, List, [], ◌∷◌, T}
 use Rattle.std.specs.List.{list_any}
-use Rattle.std.specs.FinMap.{is_sorted, find}
+use Rattle.std.specs.FinMap.{is_sorted}
+use Rattle.layer_base.specs.Among as among
 use Rattle.posting_lists.specs.declared.posting.Posting.{Posting}
 use Rattle.layer_stack.specs.declared.directory.Span.{Span}
 use Rattle.layer_stack.specs.declared.place.TermKey.{TermKey}
@@ -12,7 +13,7 @@ use Rattle.layer_stack.specs.Words.{has_term}
 
 -- whether a term is among those of a list
 abbrev pub is_among : {X : Type 0} → TermKey → List (TermKey × X) → Bool
-is_among term es = is_some (find term_cmp term es)
+is_among = among.is_among term_cmp
 
 -- whether one of the layers deletes or puts under a term
 abbrev pub is_changed : TermKey → List PostingChanges → Bool

@@ -73,7 +73,7 @@ fn pick_postings(
 fn pick_keys(alloc: Global, rows: &[(DocKey, usize)]) -> Result<Vec<DocKey>, AllocError>
     ensures { IfOk result (λ keys. keys.items ≡ map (λ e. e.0) rows.now) }
 {
-    let mut keys = Vec::new(alloc);
+    let mut keys = Vec::with_capacity(alloc, rows.len())?;
     for (key, _number) in rows {
         keys.push(*key)?;
     }

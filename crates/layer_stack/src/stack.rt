@@ -79,21 +79,8 @@ impl Stack {
     pub fn cursor(&self, alloc: Global, term: &TermKey) -> Result<StackCursor<'_>, AllocError>
         ensures { IfOk result (λ cursor. cursor ≡ postings_of term.now (stack_table self.now.0)) }
     {
-        self.front_cursor(alloc, self.layers(), term)
-    }
-
-    // The postings of a term in the first `count` layers, in rank order.
-    pub(crate) fn front_cursor(
-        &self,
-        alloc: Global,
-        count: usize,
-        term: &TermKey,
-    ) -> Result<StackCursor<'_>, AllocError>
-        requires { count ≤ length self.now.0 }
-        ensures { IfOk result (λ cursor. cursor ≡ postings_of term.now (stack_table (take count self.now.0))) }
-    {
         let mut parts = Parts::new(alloc);
-        for i in 0..count {
+        for i in 0..self.layers() {
             parts.add(self.layer(i).part(term))?;
         }
         StackCursor::over(parts)

@@ -4,10 +4,12 @@ use Rattle.std.specs.FinMap.{is_sorted}
 use Rattle.std.proofs.lemmas.Result.{IfOk-weaker}
 use Rattle.layer_base.specs.Layers.{from_log}
 use Rattle.forward_data.specs.declared.record.RecordKey.{RecordKey}
-use Rattle.forward_data.specs.Combined.{is_among, is_changed, AreChanged, bare}
+use Rattle.layer_base.specs.Among.{bare}
+use Rattle.forward_data.specs.Combined.{is_among, is_changed, AreChanged}
 use Rattle.forward_data.specs.Records.{record_cmp}
-use Rattle.forward_data.proofs.Combined.{changed_start, changed_more, among_last}
-use Rattle.forward_data.proofs.Order.{record_apart}
+use Rattle.layer_base.proofs.Among.{among_last}
+use Rattle.forward_data.proofs.Combined.{changed_start, changed_more}
+use Rattle.forward_data.proofs.Order.{record_apart, record_total}
 use Rattle.forward_data.proofs.combine.changed_keys.Goals as goal
 
 pub loop-i-init : goal.loop-i-init
@@ -30,5 +32,5 @@ returns c =
     IfOk-weaker c.last_words.result (λ rows. rows.items ≡ finite.entries (from_log {R = record_cmp} log)) (λ rows. AreChanged (drop 1 (take c.args.count layers)) rows.items)
     (λ rows is. record {
       sorted = subst (λ (es : List (RecordKey × Unit {0})). T (is_sorted record_cmp es)) (sym is) (finite.entries_sorted (from_log {R = record_cmp} log));
-      exact = λ k. ap (is_among k) is ∙ among_last k log ∙ c.loop-i.invariant k ∙ ap (λ n. is_changed k (drop 1 (take n layers))) all;
+      exact = λ k. ap (is_among k) is ∙ among_last record_cmp record_total k log ∙ c.loop-i.invariant k ∙ ap (λ n. is_changed k (drop 1 (take n layers))) all;
     }) c.last_words.ensures.last

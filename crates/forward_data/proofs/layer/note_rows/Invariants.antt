@@ -1,5 +1,5 @@
 use Rattle.std.proofs.Common.{◌≡◌, ◌++◌, map, take}
-use Rattle.forward_data.specs.Combined.{bare}
+use Rattle.layer_base.specs.Among.{bare}
 use Rattle.forward_data.proofs.layer.note_rows.Given as goal
 
 abbrev pub invariant-loop-key : goal.invariant-loop-key

@@ -8,8 +8,9 @@ use Rattle.layer_stack.specs.declared.place.TermKey.{TermKey}
 use Rattle.layer_stack.specs.Combined.{is_among, is_changed, AreChanged}
 use Rattle.layer_stack.specs.Places.{term_cmp}
 use Rattle.layer_stack.specs.Words.{has_term}
-use Rattle.layer_stack.proofs.Combined.{changed_more, among_last}
-use Rattle.layer_stack.proofs.Order.{term_apart}
+use Rattle.layer_base.proofs.Among.{among_last}
+use Rattle.layer_stack.proofs.Combined.{changed_more}
+use Rattle.layer_stack.proofs.Order.{term_apart, term_total}
 use Rattle.layer_stack.proofs.combine.changed_terms.Goals as goal
 
 pub loop-i-preserved : goal.loop-i-preserved
@@ -29,5 +30,5 @@ returns c =
     IfOk-weaker c.last_words.result (λ rows. rows.items ≡ finite.entries (from_log {R = term_cmp} log)) (λ rows. AreChanged (section 1 c.args.count layers) rows.items)
     (λ rows is. record {
       sorted = subst (λ (es : List (TermKey × Unit {0})). T (is_sorted term_cmp es)) (sym is) (finite.entries_sorted (from_log {R = term_cmp} log));
-      exact = λ t. ap (is_among t) is ∙ among_last t log ∙ c.loop-i.invariant t ∙ ap (λ n. is_changed t (section 1 n layers)) all;
+      exact = λ t. ap (is_among t) is ∙ among_last term_cmp term_total t log ∙ c.loop-i.invariant t ∙ ap (λ n. is_changed t (section 1 n layers)) all;
     }) c.last_words.ensures.last

@@ -4,12 +4,14 @@ use Rattle.std.proofs.lemmas.List.{map-append, take_all}
 use Rattle.std.proofs.lemmas.Iterator.Consumers.{YieldsList-from_rest, YieldsList-turn, YieldsList-end}
 use Rattle.posting_lists.specs.Postings.{section}
 use Rattle.layer_base.specs.Layers.{stack_table}
+use Rattle.layer_stack.specs.Places.{term_cmp}
 use Rattle.layer_stack.specs.declared.directory.Span.{Span}
 use Rattle.layer_stack.specs.declared.place.TermKey.{TermKey}
 use Rattle.layer_stack.specs.Combined.{is_among, putting_terms}
 use Rattle.layer_stack.specs.Postings.{PostingChanges, postings_of, putting_list}
 use Rattle.layer_stack.specs.Spans.{spanned, told}
-use Rattle.layer_stack.proofs.Combined.{Has, is_done, done_start, done_terms, done_span, all_done, span_there}
+use Rattle.layer_base.proofs.Among.{is_done}
+use Rattle.layer_stack.proofs.Combined.{Has, done_start, done_terms, done_span, all_done, span_there}
 use Rattle.layer_stack.proofs.combine.combined.Goals as goal
 
 pub loop-term-init : goal.loop-term-init
@@ -18,7 +20,7 @@ loop-term-init c =
     record {
       within = omega arith;
       front = c.in_ok-front.ensures {u = tt};
-      has = subst (λ (d : PostingChanges). Has table (is_done c.args.changed.now 0 []) d) (sym c.new-delta.ensures) (done_start table c.args.changed.now);
+      has = subst (λ (d : PostingChanges). Has table (is_done term_cmp {X = Span} c.args.changed.now 0 []) d) (sym c.new-delta.ensures) (done_start table c.args.changed.now);
     }
 
 pub put_unchanged-requires-clause-within : goal.put_unchanged-requires-clause-within
@@ -41,13 +43,13 @@ loop-term-preserved c =
     λ none. ap (λ o. told o ps) (sym (span_there directory (length c.loop-term.yielded) e c.requires.spans.sorted turn.0 turn.1)) ∙ c.requires.alone e.0 none in
     let terms : c1 ≡ putting_terms table (section at to changed) c.loop-term.delta =
     c.in_ok-put_terms.ensures.put ∙ ap (λ (layers : List PostingChanges). putting_terms (stack_table layers) (section at to changed) c.loop-term.delta) c.loop-term.invariant.front in
-    let has = subst (λ (d : PostingChanges). Has table (is_done changed to spans) d) (sym terms) (done_terms table changed at to spans c.loop-term.delta c.passed-to.ensures.0 c.passed-to.ensures.1 c.loop-term.invariant.has) in
+    let has = subst (λ (d : PostingChanges). Has table (is_done term_cmp changed to spans) d) (sym terms) (done_terms table changed at to spans c.loop-term.delta c.passed-to.ensures.0 c.passed-to.ensures.1 c.loop-term.invariant.has) in
     let more = sym (map-append (deref_pair {K = TermKey} {X = Span}) c.loop-term.yielded ((c.in-Some.term, c.in-Some.span) ∷ [])) in
     record {
       within = c.passed-to.ensures.1;
       front = c.put_terms.ensures.same ∙ c.loop-term.invariant.front;
-      has = subst (λ (d : PostingChanges). Has table (is_done changed to (map deref_pair (c.loop-term.yielded ++ (c.in-Some.term, c.in-Some.span) ∷ []))) d) (sym (c.in_ok-put_unchanged.ensures {u = tt}))
-          (subst (λ (ss : List (TermKey × Span)). Has table (is_done changed to ss) (cond (is_among e.0 changed) c1 (putting_list e.0 (spanned e.1 ps) c1))) more
+      has = subst (λ (d : PostingChanges). Has table (is_done term_cmp changed to (map deref_pair (c.loop-term.yielded ++ (c.in-Some.term, c.in-Some.span) ∷ []))) d) (sym (c.in_ok-put_unchanged.ensures {u = tt}))
+          (subst (λ (ss : List (TermKey × Span)). Has table (is_done term_cmp changed to ss) (cond (is_among e.0 changed) c1 (putting_list e.0 (spanned e.1 ps) c1))) more
           (done_span table changed to spans e (spanned e.1 ps) c1 alone has));
     }
 
@@ -60,6 +62,6 @@ returns c =
     let end = YieldsList-end road c.loop-term.yielded c.loop-term.term-iterator c.loop-term.yielded_by _ c.next.new.self c.in-None.is c.next.ensures.steps in
     let terms : c.put_terms-2.new.delta ≡ putting_terms table (section at all changed) c.loop-term.delta =
     c.in_ok-put_terms-2.ensures.put ∙ ap (λ (layers : List PostingChanges). putting_terms (stack_table layers) (section at all changed) c.loop-term.delta) c.loop-term.invariant.front in
-    let has = subst (λ (d : PostingChanges). Has table (is_done changed all spans) d) (sym terms) (done_terms table changed at all spans c.loop-term.delta c.loop-term.invariant.within (omega arith) c.loop-term.invariant.has) in
+    let has = subst (λ (d : PostingChanges). Has table (is_done term_cmp changed all spans) d) (sym terms) (done_terms table changed at all spans c.loop-term.delta c.loop-term.invariant.within (omega arith) c.loop-term.invariant.has) in
     all_done table changed all directory ps c.put_terms-2.new.delta (take_all all changed (omega arith)) c.requires.alone
-    (subst (λ (ss : List (TermKey × Span)). Has table (is_done changed all ss) c.put_terms-2.new.delta) end.0 has)
+    (subst (λ (ss : List (TermKey × Span)). Has table (is_done term_cmp changed all ss) c.put_terms-2.new.delta) end.0 has)

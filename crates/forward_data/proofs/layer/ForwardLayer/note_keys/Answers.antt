@@ -1,7 +1,7 @@
 use Rattle.std.proofs.Common.{◌≡◌, ◌++◌, map, ap, ◌∙◌, sym, subst}
 use Rattle.std.specs.FinMap as finite
 use Rattle.std.specs.Result.{OnOk}
-use Rattle.forward_data.specs.Combined.{bare}
+use Rattle.layer_base.specs.Among.{bare}
 use Rattle.forward_data.specs.Records.{record_cmp}
 use Rattle.forward_data.proofs.layer.ForwardLayer.note_keys.Goals as goal
 

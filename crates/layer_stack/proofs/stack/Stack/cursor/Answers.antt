@@ -1,4 +1,5 @@
 use Rattle.std.proofs.Common.{rules, arith, ◌≡◌, List, take, ap, ◌∙◌, sym, subst}
+use Rattle.std.proofs.lemmas.List.{take_all}
 use Rattle.std.specs.FinMap as finite
 use Rattle.uni_base.specs.RankOrder.{doc_cmp}
 use Rattle.layer_base.specs.Layers.{stack_table}
@@ -8,7 +9,7 @@ use Rattle.std.specs.Result.{IfOk}
 use Rattle.posting_lists.specs.declared.posting.Posting.{Posting}
 use Rattle.layer_stack.specs.Stacks.{part_table, remaining_of}
 use Rattle.layer_stack.proofs.Terms.{layer_more, parts_stand}
-use Rattle.layer_stack.proofs.stack.Stack.front_cursor.Goals as goal
+use Rattle.layer_stack.proofs.stack.Stack.cursor.Goals as goal
 
 pub loop-i-init : goal.loop-i-init
 loop-i-init c k =
@@ -25,6 +26,6 @@ loop-i-preserved c k =
 pub returns : goal.returns
 returns c =
     let layers = c.args.self.now.0 in let t = c.args.term.now in
-    let all : c.loop-i.i ≡ c.args.count = omega (arith, c.loop-i-test.false, c.loop-i.auto.i-end) in
-    let stand : remaining_of c.loop-i.parts ≡ postings_of t (stack_table (take c.args.count layers)) = parts_stand t c.loop-i.parts (stack_table (take c.args.count layers)) (λ k. c.loop-i.invariant k ∙ ap (λ n. finite.get (stack_table (take n layers)) (place_of t k)) all) in
+    let all : take c.loop-i.i layers ≡ layers = take_all c.loop-i.i layers (omega (arith, c.loop-i-test.false, c.loop-i.auto.i-end, c.layers-i-end.ensures)) in
+    let stand : remaining_of c.loop-i.parts ≡ postings_of t (stack_table layers) = parts_stand t c.loop-i.parts (stack_table layers) (λ k. c.loop-i.invariant k ∙ ap (λ ls. finite.get (stack_table ls) (place_of t k)) all) in
     subst (λ (ps : List Posting). IfOk c.over.result (λ cursor. cursor ≡ ps)) stand c.over.ensures
