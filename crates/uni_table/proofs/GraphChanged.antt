@@ -18,7 +18,7 @@ use Rattle.uni_base.specs.declared.edge.EdgeRef.{EdgeRef}
 use Rattle.uni_base.specs.EdgeOrder.{edge_cmp}
 use Rattle.uni_table.specs.Changes.{HasEntityChanges, HasEdgeChanges, IsEntityChange, IsEdgeChange, rank_at}
 use Rattle.uni_table.specs.Contents.{entity_at, edge_at}
-use Rattle.uni_table.specs.GraphChanges.{AreAffected, entity_change, entity_change_at, edge_change, edge_change_at, is_other_entity, is_changed_entity, is_other, is_changed, is_affected, rank_differs, has_moved, moved_at}
+use Rattle.uni_table.specs.GraphChanges.{AreAffected, entity_change, entity_change_at, edge_change, edge_change_at, change_of, is_other_entity, is_changed_entity, is_other, is_changed, is_affected, no_ranks, rank_differs, rank_of, ranks_at, ranks_of, moved_at}
 use Rattle.uni_table.specs.GraphKeys.{source_eq, edge_total, exact_edges}
 use Rattle.uni_table.specs.GraphRows.{IsRows, IsCircleKnown, IsBeforeKnown, contents_of, published_of, slots_named, slot_named, slot_before, node_before, entity_before, entity_then_of, row_of, row_before, edge_named, source_named, circle_named, is_same_entity, is_live}
 use Rattle.uni_table.specs.declared.change.EntityChange.{EntityChange}
@@ -142,22 +142,22 @@ entity-differs (entity_then.Present old) (Some row) is same =
     let one : old ≡ row = cc in
     true≢false (sym is ∙ ap (λ (r : EntityRow). not (old.vertical == r.vertical) || not (old.rank.0 == r.rank.0)) (sym one) ∙ (λ j. not (equal-itself old.vertical j) || not (equal-itself old.rank.0 j)))
 
-rank-differs : (a b : Option EntityRow) → rank_differs a b ≡ true → option_map (λ row. row.rank) a ≢ option_map (λ row. row.rank) b
+rank-differs : (a b : Option Rank) → rank_differs a b ≡ true → a ≢ b
 rank-differs None None is same = cc
 rank-differs None (Some b) is same = cc
 rank-differs (Some a) None is same = cc
 rank-differs (Some a) (Some b) is same =
-    let one : a.rank ≡ b.rank = cc in
-    true≢false (sym is ∙ ap (λ (r : Rank). not (a.rank.0 == r.0)) (sym one) ∙ ap not (equal-itself a.rank.0))
+    let one : a ≡ b = cc in
+    true≢false (sym is ∙ ap (λ (r : Rank). not (a.0 == r.0)) (sym one) ∙ ap not (equal-itself a.0))
 
-rank-same : (a b : Option EntityRow) → rank_differs a b ≡ false → option_map (λ row. row.rank) a ≡ option_map (λ row. row.rank) b
+rank-same : (a b : Option Rank) → rank_differs a b ≡ false → a ≡ b
 rank-same None None is = refl
 rank-same None (Some b) is = cc
 rank-same (Some a) None is = cc
-rank-same (Some a) (Some b) is = by (a.rank.0 == b.rank.0) refl is
+rank-same (Some a) (Some b) is = by (a.0 == b.0) refl is
   where
-    by : (r : Bool) → (a.rank.0 == b.rank.0) ≡ r → not r ≡ false → Some a.rank ≡ Some b.rank
-    by true at h = ap Some (same-rank a.rank b.rank at)
+    by : (r : Bool) → (a.0 == b.0) ≡ r → not r ≡ false → Some a ≡ Some b
+    by true at h = ap Some (same-rank a b at)
     by false at h = cc
 
 module _ (rows : Rows) (kept : IsRows rows) where
@@ -378,36 +378,38 @@ module _ (rows : Rows) (kept : IsRows rows) where
         let n = entry-at rows.ids.entries e.0.target (kept.known i e at).target in
         (n.0, n.1, sym (get_or_from_slice_get (keys_of rows.ids.entries) e.0.target n.0.0 0 (key-at rows.ids.entries e.0.target n.0 n.1)))
 
-    -- its rank differs exactly where it has moved
+    -- its ranks are those that stand there
+    rank-then : (ranks_at rows e.0.target).before ≡ rank_at (published_of rows) (edge_named (keys_of rows.sources.entries) (keys_of rows.ids.entries) e.0).target
+    rank-then =
+        let t = target-at in
+        ap (λ o. (option_map_or (λ n. ranks_of n.1) o no_ranks).before) t.1
+        ∙ sym (ap rank_of (entity-before rows kept e.0.target t.0.0 t.0.1 t.1)) ∙ ap (rank_at (published_of rows)) t.2
+
+    rank-now : (ranks_at rows e.0.target).after ≡ rank_at (contents_of rows) (edge_named (keys_of rows.sources.entries) (keys_of rows.ids.entries) e.0).target
+    rank-now =
+        let t = target-at in
+        ap (λ o. (option_map_or (λ n. ranks_of n.1) o no_ranks).after) t.1
+        ∙ sym (ap rank_of (entity-now rows kept e.0.target t.0.0 t.0.1 t.1)) ∙ ap (rank_at (contents_of rows)) t.2
+
+    -- they differ exactly where it has moved
     moved-differs : moved_at rows e.0.target ≡ true
         → rank_at (published_of rows) (edge_named (keys_of rows.sources.entries) (keys_of rows.ids.entries) e.0).target ≢ rank_at (contents_of rows) (edge_named (keys_of rows.sources.entries) (keys_of rows.ids.entries) e.0).target
-    moved-differs moved same =
-        let t = target-at in
-        let told : has_moved t.0.1 ≡ true = sym (ap (λ o. option_map_or (λ n. has_moved n.1) o false) t.1) ∙ moved in
-        rank-differs (entity_before t.0.1) t.0.1.row told
-        (sym (ap (option_map (λ row. row.rank)) (entity-before rows kept e.0.target t.0.0 t.0.1 t.1)) ∙ ap (rank_at (published_of rows)) t.2 ∙ same ∙ ap (rank_at (contents_of rows)) (sym t.2)
-        ∙ ap (option_map (λ row. row.rank)) (entity-now rows kept e.0.target t.0.0 t.0.1 t.1))
+    moved-differs moved same = rank-differs (ranks_at rows e.0.target).before (ranks_at rows e.0.target).after moved (rank-then ∙ same ∙ sym rank-now)
 
     differs-moved : rank_at (published_of rows) (edge_named (keys_of rows.sources.entries) (keys_of rows.ids.entries) e.0).target ≢ rank_at (contents_of rows) (edge_named (keys_of rows.sources.entries) (keys_of rows.ids.entries) e.0).target
         → moved_at rows e.0.target ≡ true
-    differs-moved differ = by (has_moved target-at.0.1) refl
+    differs-moved differ = by (moved_at rows e.0.target) refl
       where
-        by : (b : Bool) → has_moved target-at.0.1 ≡ b → moved_at rows e.0.target ≡ true
-        by true moved = ap (λ o. option_map_or (λ n. has_moved n.1) o false) target-at.1 ∙ moved
-        by false moved = absurd (differ
-            (ap (rank_at (published_of rows)) (sym target-at.2) ∙ ap (option_map (λ row. row.rank)) (entity-before rows kept e.0.target target-at.0.0 target-at.0.1 target-at.1)
-            ∙ rank-same (entity_before target-at.0.1) target-at.0.1.row moved
-            ∙ sym (ap (option_map (λ row. row.rank)) (entity-now rows kept e.0.target target-at.0.0 target-at.0.1 target-at.1)) ∙ ap (rank_at (contents_of rows)) target-at.2))
+        by : (b : Bool) → moved_at rows e.0.target ≡ b → moved_at rows e.0.target ≡ true
+        by true moved = moved
+        by false moved = absurd (differ (sym rank-then ∙ rank-same (ranks_at rows e.0.target).before (ranks_at rows e.0.target).after moved ∙ rank-now))
 
-    abbrev change-of : EdgeChange
-    change-of = record {
-      edge = edge_named (keys_of rows.sources.entries) (keys_of rows.ids.entries) e.0;
-      before = row_before (keys_of rows.sources.entries) e.1.before (row_of (keys_of rows.sources.entries) e.1.state e.1.end);
-      after = row_of (keys_of rows.sources.entries) e.1.state e.1.end;
-    }
+    -- what became of it
+    abbrev change-there : EdgeChange
+    change-there = change_of rows (edge_named (keys_of rows.sources.entries) (keys_of rows.ids.entries) e.0) e
 
     -- an edge that is affected is a change
-    affected-is : is_affected rows e ≡ true → IsEdgeChange (published_of rows) (contents_of rows) change-of
+    affected-is : is_affected rows e ≡ true → IsEdgeChange (published_of rows) (contents_of rows) change-there
     affected-is is = (
       sym edge-then,
       sym edge-now,
@@ -416,14 +418,12 @@ module _ (rows : Rows) (kept : IsRows rows) where
           (subst (λ n. IsBeforeKnown n e.1.before) (sym (length-keys_of rows.sources.entries)) (kept.known i e at).before) (subst (λ n. IsCircleKnown n e.1.state) (sym (length-keys_of rows.sources.entries)) (kept.known i e at).circle) changed))
           (λ led. inr (live-some (keys_of rows.sources.entries) e.1.state e.1.end led.0, moved-differs led.1))
           (affected-cases rows e is),
+      rank-then,
+      rank-now,
     )
 
   made : (e : EdgeNo × Slot) → EdgeChange
-  made e = record {
-    edge = edge_named (keys_of rows.sources.entries) (keys_of rows.ids.entries) e.0;
-    before = row_before (keys_of rows.sources.entries) e.1.before (row_of (keys_of rows.sources.entries) e.1.state e.1.end);
-    after = row_of (keys_of rows.sources.entries) e.1.state e.1.end;
-  }
+  made e = change_of rows (edge_named (keys_of rows.sources.entries) (keys_of rows.ids.entries) e.0) e
 
   -- what is picked at a place is a change
   edge-sound : (place : ℕ) (change : EdgeChange) → edge_change_at rows place ≡ Some change
@@ -460,6 +460,8 @@ module _ (rows : Rows) (kept : IsRows rows) where
           let e = p.1 in
           let was : row_before (keys_of rows.sources.entries) e.1.before (row_of (keys_of rows.sources.entries) e.1.state e.1.end) ≡ change.before = sym (edge-then p.0 e p.2) ∙ ap (edge_at (published_of rows)) p.3 ∙ sym is.0 in
           let now : row_of (keys_of rows.sources.entries) e.1.state e.1.end ≡ change.after = sym (edge-now p.0 e p.2) ∙ ap (edge_at (contents_of rows)) p.3 ∙ sym is.1 in
+          let rank_was : (ranks_at rows e.0.target).before ≡ change.rank_before = rank-then p.0 e p.2 ∙ ap (λ (x : EdgeRef). rank_at (published_of rows) x.target) p.3 ∙ sym is.3 in
+          let rank_is : (ranks_at rows e.0.target).after ≡ change.rank_after = rank-now p.0 e p.2 ∙ ap (λ (x : EdgeRef). rank_at (contents_of rows) x.target) p.3 ∙ sym is.4 in
           let affected : is_affected rows e ≡ true = ⊎_elim
           (λ differ. changed-affected e (differs-changed (keys_of rows.sources.entries) e.1.before e.1.state e.1.end (λ same. differ (sym was ∙ same ∙ now))))
           (λ led. led-affected e (some-live (keys_of rows.sources.entries) e.1.state e.1.end (subst IsSome (sym now) led.0))
@@ -467,8 +469,8 @@ module _ (rows : Rows) (kept : IsRows rows) where
           is.2 in
           picked-into (edge_change_at rows) places p.0 change (all p.0 e p.2 affected)
           (ap (option_and_then (edge_change rows)) p.2
-          ∙ ap (λ b. if b then Some (record { edge = edge_named (keys_of rows.sources.entries) (keys_of rows.ids.entries) e.0; before = row_before (keys_of rows.sources.entries) e.1.before (row_of (keys_of rows.sources.entries) e.1.state e.1.end); after = row_of (keys_of rows.sources.entries) e.1.state e.1.end }) else None) affected
-          ∙ (λ j. Some (record { edge = p.3 j; before = was j; after = now j })))
+          ∙ ap (λ b. if b then Some (change_of rows (edge_named (keys_of rows.sources.entries) (keys_of rows.ids.entries) e.0) e) else None) affected
+          ∙ (λ j. Some (record { edge = p.3 j; before = was j; after = now j; rank_before = rank_was j; rank_after = rank_is j })))
         where
           differs-changed : (sources : List Source) (b : Before) (state : SlotState) (end : ℕ) → row_before sources b (row_of sources state end) ≢ row_of sources state end → is_other b state end ≡ true
           differs-changed sources b state end differ = by (is_other b state end) refl

@@ -3,13 +3,14 @@ use Rattle.std.proofs.Common.{◌≡◌, ◌≤◌, ◌<◌, ◌+◌, ◌⊎◌,
 use Rattle.std.specs.Map.{keys_of}
 use Rattle.std.proofs.lemmas.Bool.Decides.{nat_tests}
 use Rattle.std.proofs.lemmas.List.{take_all, take_more}
-use Rattle.std.proofs.lemmas.List.Elements.{Contains-push_cases}
+use Rattle.std.proofs.lemmas.List.Elements.{Contains-append_left, Contains-append_right, Contains-push_cases}
 use Rattle.std.specs.List.{Contains}
-use Rattle.std.specs.Option.{option_map_or}
+use Rattle.std.specs.Option.{option_and_then, option_map_or}
 use Rattle.std.proofs.lemmas.Map.Entries.{length-keys_of}
 use Rattle.std.proofs.lemmas.Option.{slice_get_within}
 use Rattle.chained_rows.specs.Chains.{last_no}
-use Rattle.uni_table.specs.GraphChanges.{IsLed, AddsLedBy, AddsMoved, AreAffected, moved_at, has_moved, rank_differs, is_affected, is_changed, is_other}
+use Rattle.uni_base.specs.declared.entity.Rank.{Rank}
+use Rattle.uni_table.specs.GraphChanges.{IsLed, AddsLedBy, AddsMoved, AreAffected, moved_at, untouched_at, ranks_differ, ranks_of, no_ranks, rank_of, rank_differs, is_affected, is_changed, is_other}
 use Rattle.uni_table.specs.GraphRows.{IsRows, entity_then_of, is_live, is_same, is_same_entity, has_at, next_at, last_at}
 use Rattle.uni_table.specs.declared.command.EntityRow.{EntityRow}
 use Rattle.uni_table.specs.declared.graph.numbers.Before.{Before}
@@ -77,12 +78,12 @@ other-touched (before.Only until) state end is = refl
 other-touched (before.Circle n until) state end is = refl
 
 -- so was an id with another rank
-itself : (row : Option EntityRow) → rank_differs row row ≡ false
+itself : (rank : Option Rank) → rank_differs rank rank ≡ false
 itself None = refl
-itself (Some row) = ap not (let same : (row.rank.0 == row.rank.0) ≡ true = grind (arith, nat_tests) in same)
+itself (Some rank) = ap not (let same : (rank.0 == rank.0) ≡ true = grind (arith, nat_tests) in same)
 
-moved-touched : (b : EntityBefore) (row : Option EntityRow) → rank_differs (entity_then_of b row) row ≡ true → is_same_entity b ≡ false
-moved-touched entity_then.Same row is = absurd (true≢false (sym is ∙ itself row))
+moved-touched : (b : EntityBefore) (row : Option EntityRow) → rank_differs (rank_of (entity_then_of b row)) (rank_of row) ≡ true → is_same_entity b ≡ false
+moved-touched entity_then.Same row is = absurd (true≢false (sym is ∙ itself (rank_of row)))
 moved-touched entity_then.Absent row is = refl
 moved-touched (entity_then.Present before) row is = refl
 
@@ -95,16 +96,27 @@ affected-cases rows e is = by (is_changed e.1) refl (is_live e.1.state) refl is
     by false changed true live h = inr (live, h)
     by false changed false live h = cc
 
--- the places of touched edges and of those that reach ids with other ranks are those of all that are affected
-pub all-affected : (rows : Rows) → IsRows rows → (places : List ℕ) → AddsMoved rows rows.touched_ids.items rows.touched_edges.items places → AreAffected rows places
-all-affected rows kept places adds place e at is = ⊎_elim
-    (λ changed. adds place (inl (kept.touched_edges.listed place e at (other-touched e.1.before e.1.state e.1.end changed))))
-    (λ led. adds place (inr (e.0.target, touched e.0.target led.1, led.1, (e, at, grind (arith, nat_tests)))))
-    (affected-cases rows e is)
+-- an edge that the batch has not touched is added with its place
+pub led-added : (rows : Rows) (number place : ℕ) → IsLed rows number place → untouched_at rows place ≡ Some place
+led-added rows number place led =
+    ap (option_and_then (λ e. if is_same e.1.before then Some place else None)) led.1 ∙ ap (λ b. if b then Some place else None) led.3
+
+-- the places of touched edges and of the others that reach ids with other ranks are those of all that are affected
+pub all-affected : (rows : Rows) → IsRows rows → (others : List ℕ) → AddsMoved rows rows.touched_ids.items [] others → AreAffected rows (others ++ rows.touched_edges.items)
+all-affected rows kept others adds place e at is = by (is_same e.1.before) refl
   where
     touched : (number : ℕ) → moved_at rows number ≡ true → Contains rows.touched_ids.items number
     touched number moved = by (slice_get rows.ids.entries number) refl moved
       where
-        by : (o : Option (ℕ × Node)) → slice_get rows.ids.entries number ≡ o → option_map_or (λ n. has_moved n.1) o false ≡ true → Contains rows.touched_ids.items number
+        by : (o : Option (ℕ × Node)) → slice_get rows.ids.entries number ≡ o → ranks_differ (option_map_or (λ n. ranks_of n.1) o no_ranks) ≡ true → Contains rows.touched_ids.items number
         by None there h = cc
         by (Some n) there h = kept.touched_ids.listed number n there (moved-touched n.1.before n.1.row h)
+
+    by : (b : Bool) → is_same e.1.before ≡ b → Contains (others ++ rows.touched_edges.items) place
+    by false other = Contains-append_right others rows.touched_edges.items place (kept.touched_edges.listed place e at other)
+    by true same =
+        Contains-append_left others rows.touched_edges.items place
+        (⊎_elim
+        (λ changed. absurd (true≢false (sym same ∙ other-touched e.1.before e.1.state e.1.end changed)))
+        (λ led. adds place (inr (e.0.target, touched e.0.target led.1, led.1, (e, at, grind (arith, nat_tests), same))))
+        (affected-cases rows e is))

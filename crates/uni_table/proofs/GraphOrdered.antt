@@ -11,10 +11,10 @@ use Rattle.uni_base.specs.declared.edge.Key.{Key}
 use Rattle.uni_base.specs.declared.edge.Key.TheVariants.{Id, Word}
 use Rattle.uni_base.specs.EdgeOrder.{edge_cmp}
 use Rattle.uni_table.specs.Changes.{AreEdgeChanges, IsEdgeChange}
-use Rattle.uni_table.specs.GraphChanges.{AreAffected, edge_change, edge_change_at, is_affected}
+use Rattle.uni_table.specs.GraphChanges.{AreAffected, change_of, change_told, edge_change, edge_change_at, is_affected}
 use Rattle.uni_table.specs.GraphKeys.{edge_total, exact_edges}
-use Rattle.uni_table.specs.GraphOrder.{short_key, key_meant, edge_told, placed, placed_at, change_told, placed_change}
-use Rattle.uni_table.specs.GraphRows.{IsRows, contents_of, published_of, edge_named, source_named, row_before, row_of}
+use Rattle.uni_table.specs.GraphOrder.{short_key, key_meant, edge_told, placed, placed_at, placed_change}
+use Rattle.uni_table.specs.GraphRows.{IsRows, contents_of, published_of, edge_named, source_named}
 use Rattle.uni_table.specs.declared.change.EdgeChange.{EdgeChange}
 use Rattle.uni_table.specs.declared.graph.numbers.EdgeNo.{EdgeNo}
 use Rattle.uni_table.specs.declared.graph.numbers.Slot.{Slot}
@@ -39,11 +39,7 @@ module _ (rows : Rows) where
   told-change : (p : PlacedEdge) → IsNamed (edge_told rows) (λ (c : EdgeChange). c.edge) (placed_change rows) edge_total p
   told-change p c is = by (slice_get rows.edges.entries p.place) is
     where
-      made : (e : EdgeNo × Slot) (b : Bool) → (if b then Some (record {
-        edge = edge_told rows p;
-        before = row_before (keys_of rows.sources.entries) e.1.before (row_of (keys_of rows.sources.entries) e.1.state e.1.end);
-        after = row_of (keys_of rows.sources.entries) e.1.state e.1.end;
-      }) else None) ≡ Some c → c.edge ≡ edge_told rows p
+      made : (e : EdgeNo × Slot) (b : Bool) → (if b then Some (change_of rows (edge_told rows p) e) else None) ≡ Some c → c.edge ≡ edge_told rows p
       made e false h = cc
       made e true h = cc
 

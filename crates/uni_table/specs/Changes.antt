@@ -19,11 +19,12 @@ abbrev pub IsEntityChange : Contents → Contents → EntityChange → Type 0
 IsEntityChange old new change =
     (change.before ≡ entity_at old change.id) × (change.after ≡ entity_at new change.id) × (change.before ≢ change.after)
 
--- an edge that differs, or one whose target has another rank, with its rows
+-- an edge that differs, or one whose target has another rank, with its rows and the ranks of its target
 abbrev pub IsEdgeChange : Contents → Contents → EdgeChange → Type 0
 IsEdgeChange old new change =
     (change.before ≡ edge_at old change.edge) × (change.after ≡ edge_at new change.edge)
     × ((change.before ≢ change.after) ⊎ (IsSome change.after × (rank_at old change.edge.target ≢ rank_at new change.edge.target)))
+    × (change.rank_before ≡ rank_at old change.edge.target) × (change.rank_after ≡ rank_at new change.edge.target)
 
 -- exactly the changes, each once, in some order
 pub record HasEntityChanges (old new : Contents) (changes : List EntityChange) : Type 0 where

@@ -2,8 +2,10 @@
 use Rattle.std.specs.Prelude.{ℕ, ◌≡◌, ◌⊎◌, Bool, true, false, not, ◌==◌, ◌||◌, List, Option, None, Some, is_some, slice_get, if◌then◌else◌}
 use Rattle.std.specs.List.{Contains}
 use Rattle.std.specs.Map.{keys_of}
-use Rattle.std.specs.Option.{option_and_then, option_map_or}
-use Rattle.uni_table.specs.GraphRows.{edge_named, row_of, row_before, entity_before, has_at, is_live}
+use Rattle.std.specs.Option.{option_and_then, option_map, option_map_or}
+use Rattle.uni_base.specs.declared.edge.EdgeRef.{EdgeRef}
+use Rattle.uni_base.specs.declared.entity.Rank.{Rank}
+use Rattle.uni_table.specs.GraphRows.{edge_named, row_of, row_before, entity_before, has_at, is_live, is_same}
 use Rattle.uni_table.specs.declared.change.EntityChange.{EntityChange}
 use Rattle.uni_table.specs.declared.change.EdgeChange.{EdgeChange}
 use Rattle.uni_table.specs.declared.command.EntityRow.{EntityRow}
@@ -13,6 +15,7 @@ use Rattle.uni_table.specs.declared.graph.numbers.EntityBefore.{EntityBefore}
 use Rattle.uni_table.specs.declared.graph.numbers.EntityBefore.TheVariants as entity_then
 use Rattle.uni_table.specs.declared.graph.numbers.EdgeNo.{EdgeNo}
 use Rattle.uni_table.specs.declared.graph.numbers.Node.{Node}
+use Rattle.uni_table.specs.declared.graph.numbers.Ranks.{Ranks}
 use Rattle.uni_table.specs.declared.graph.numbers.Slot.{Slot}
 use Rattle.uni_table.specs.declared.graph.numbers.SlotState.{SlotState}
 use Rattle.uni_table.specs.declared.graph.numbers.SlotState.TheVariants.{Gone, Public, Only, Circle}
@@ -76,32 +79,59 @@ is_other_entity (entity_then.Present before) row = differs_from before row
 abbrev pub is_changed_entity : Node → Bool
 is_changed_entity node = is_other_entity node.before node.row
 
--- whether two rows have other ranks, or one of them is none
-abbrev pub rank_differs : Option EntityRow → Option EntityRow → Bool
+-- whether two ranks differ, or one of them is none
+abbrev pub rank_differs : Option Rank → Option Rank → Bool
 rank_differs None None = false
-rank_differs None (Some row) = true
+rank_differs None (Some rank) = true
 rank_differs (Some before) None = true
-rank_differs (Some before) (Some row) = not (before.rank.0 == row.rank.0)
+rank_differs (Some before) (Some rank) = not (before.0 == rank.0)
 
-abbrev pub has_moved : Node → Bool
-has_moved node = rank_differs (entity_before node) node.row
+abbrev pub ranks_differ : Ranks → Bool
+ranks_differ ranks = rank_differs ranks.before ranks.after
+
+-- the rank of an entity, if it is one, and the ranks of an id at the last publish and now
+abbrev pub rank_of : Option EntityRow → Option Rank
+rank_of row = option_map (λ r. r.rank) row
+
+abbrev pub ranks_of : Node → Ranks
+ranks_of node = record { before = rank_of (entity_before node); after = rank_of node.row }
+
+-- those of the id of a number, and whether they differ
+abbrev pub no_ranks : Ranks
+no_ranks = record { before = None; after = None }
+
+abbrev pub ranks_at : Rows → ℕ → Ranks
+ranks_at rows number = option_map_or (λ n. ranks_of n.1) (slice_get rows.ids.entries number) no_ranks
+
+abbrev pub moved_at : Rows → ℕ → Bool
+moved_at rows number = ranks_differ (ranks_at rows number)
 
 -- the change of an id, if it differs
 abbrev pub entity_change : ℕ × Node → Option EntityChange
 entity_change e = if is_changed_entity e.1 then Some (record { id = e.0; before = entity_before e.1; after = e.1.row }) else None
 
--- whether an edge differs, or lives and leads to an id with another rank
+-- whether an edge differs, or lives and leads to an id with other ranks
+abbrev pub is_affected_by : Slot → Ranks → Bool
+is_affected_by slot ranks = is_changed slot || (if is_live slot.state then ranks_differ ranks else false)
+
 abbrev pub is_affected : Rows → EdgeNo × Slot → Bool
-is_affected rows e =
-    is_changed e.1 || (if is_live e.1.state then option_map_or (λ n. has_moved n.1) (slice_get rows.ids.entries e.0.target) false else false)
+is_affected rows e = is_affected_by e.1 (ranks_at rows e.0.target)
+
+-- what became of an edge by what stands at its place, and that change if it is affected
+abbrev pub change_of : Rows → EdgeRef → EdgeNo × Slot → EdgeChange
+change_of rows edge e = record {
+  edge = edge;
+  before = row_before (keys_of rows.sources.entries) e.1.before (row_of (keys_of rows.sources.entries) e.1.state e.1.end);
+  after = row_of (keys_of rows.sources.entries) e.1.state e.1.end;
+  rank_before = (ranks_at rows e.0.target).before;
+  rank_after = (ranks_at rows e.0.target).after;
+}
+
+abbrev pub change_told : Rows → EdgeRef → EdgeNo × Slot → Option EdgeChange
+change_told rows edge e = if is_affected rows e then Some (change_of rows edge e) else None
 
 abbrev pub edge_change : Rows → EdgeNo × Slot → Option EdgeChange
-edge_change rows e =
-    if is_affected rows e then Some (record {
-      edge = edge_named (keys_of rows.sources.entries) (keys_of rows.ids.entries) e.0;
-      before = row_before (keys_of rows.sources.entries) e.1.before (row_of (keys_of rows.sources.entries) e.1.state e.1.end);
-      after = row_of (keys_of rows.sources.entries) e.1.state e.1.end;
-    }) else None
+edge_change rows e = change_told rows (edge_named (keys_of rows.sources.entries) (keys_of rows.ids.entries) e.0) e
 
 -- those of places
 abbrev pub entity_change_at : Rows → ℕ → Option EntityChange
@@ -110,18 +140,20 @@ entity_change_at rows place = option_and_then entity_change (slice_get rows.ids.
 abbrev pub edge_change_at : Rows → ℕ → Option EdgeChange
 edge_change_at rows place = option_and_then (edge_change rows) (slice_get rows.edges.entries place)
 
--- the place of an edge that reaches the id of a number, gone or not
+-- a place, if it is that of an edge that the batch has not touched
+abbrev pub untouched_at : Rows → ℕ → Option ℕ
+untouched_at rows place = option_and_then (λ e. if is_same e.1.before then Some place else None) (slice_get rows.edges.entries place)
+
+-- the place of an edge that reaches the id of a number, gone or not, and that the batch has not touched
 abbrev pub IsLed : Rows → ℕ → ℕ → Type 0
-IsLed rows number place = (e : EdgeNo × Slot) × (slice_get rows.edges.entries place ≡ Some e) × (has_at Target number e.0 ≡ true)
+IsLed rows number place =
+    (e : EdgeNo × Slot) × (slice_get rows.edges.entries place ≡ Some e) × (has_at Target number e.0 ≡ true) × (is_same e.1.before ≡ true)
 
 -- the places of a list are in another, with those of edges that reach the id of a number
 abbrev pub AddsLed : Rows → ℕ → List ℕ → List ℕ → Type 0
 AddsLed rows number old new = (place : ℕ) → Contains old place ⊎ IsLed rows number place → Contains new place
 
 -- or of such edges if the id has another rank
-abbrev pub moved_at : Rows → ℕ → Bool
-moved_at rows number = option_map_or (λ n. has_moved n.1) (slice_get rows.ids.entries number) false
-
 abbrev pub AddsLedBy : Rows → ℕ → List ℕ → List ℕ → Type 0
 AddsLedBy rows number old new = (place : ℕ) → Contains old place ⊎ ((moved_at rows number ≡ true) × IsLed rows number place) → Contains new place
 

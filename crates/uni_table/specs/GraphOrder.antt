@@ -1,12 +1,12 @@
 -- Edges by their places, with what they are ordered by.
-use Rattle.std.specs.Prelude.{ℕ, List, Option, None, Some, slice_get, if◌then◌else◌}
+use Rattle.std.specs.Prelude.{ℕ, List, Option, None, Some, slice_get}
 use Rattle.std.specs.Map.{keys_of}
 use Rattle.std.specs.Option.{option_and_then, option_map, option_map_or}
 use Rattle.uni_base.specs.declared.edge.EdgeRef.{EdgeRef}
 use Rattle.uni_base.specs.declared.edge.Key.{Key}
 use Rattle.uni_base.specs.declared.edge.Key.TheVariants.{Id, Word}
-use Rattle.uni_table.specs.GraphChanges.{is_affected}
-use Rattle.uni_table.specs.GraphRows.{edge_named, row_before, row_of}
+use Rattle.uni_table.specs.GraphChanges.{change_told}
+use Rattle.uni_table.specs.GraphRows.{edge_named}
 use Rattle.uni_table.specs.declared.change.EdgeChange.{EdgeChange}
 use Rattle.uni_table.specs.declared.graph.numbers.EdgeNo.{EdgeNo}
 use Rattle.uni_table.specs.declared.graph.numbers.Slot.{Slot}
@@ -42,14 +42,6 @@ abbrev pub placed_at : Rows → ℕ → Option PlacedEdge
 placed_at rows place = option_map (λ e. placed e.0 place (edge_named (keys_of rows.sources.entries) (keys_of rows.ids.entries) e.0)) (slice_get rows.edges.entries place)
 
 -- its change by what stands at its place, if it is affected
-abbrev pub change_told : Rows → EdgeRef → EdgeNo × Slot → Option EdgeChange
-change_told rows edge e =
-    if is_affected rows e then Some (record {
-      edge = edge;
-      before = row_before (keys_of rows.sources.entries) e.1.before (row_of (keys_of rows.sources.entries) e.1.state e.1.end);
-      after = row_of (keys_of rows.sources.entries) e.1.state e.1.end;
-    }) else None
-
 abbrev pub placed_change : Rows → PlacedEdge → Option EdgeChange
 placed_change rows edge = option_and_then (change_told rows (edge_told rows edge)) (slice_get rows.edges.entries edge.place)
 

@@ -1,5 +1,5 @@
 use crate::{EdgeRow, EntityRow};
-use uni_base::{EdgeRef, EntityId, Rows};
+use uni_base::{EdgeRef, EntityId, Rank, Rows};
 
 /// An entity that a batch changed: what it was as the last batch ended, and what it is. None where it is
 /// none.
@@ -11,12 +11,14 @@ pub struct EntityChange {
 }
 
 /// An edge that a batch changed, or the rank of whose target it changed: its row as the last batch ended,
-/// and its row. None where there is none.
+/// and its row, and so the rank of its target. None where there is none.
 #[derive(Clone, Copy, Debug, PartialEq, Eq)]
 pub struct EdgeChange {
     pub edge: EdgeRef,
     pub before: Option<EdgeRow>,
     pub after: Option<EdgeRow>,
+    pub rank_before: Option<Rank>,
+    pub rank_after: Option<Rank>,
 }
 
 /// Entities that differ, by id.

@@ -1,13 +1,13 @@
 //! What differs between what the rows stand for and what they stood for at the last publish.
-ghost use Rattle.std.specs.Prelude.{◌≡◌, ◌++◌, ◌∷◌, [], false, length, map, nat_eq, slice_get, IfOk, OnOk};
+ghost use Rattle.std.specs.Prelude.{◌≡◌, ◌++◌, ◌∷◌, [], length, map, nat_eq, slice_get, IfOk, OnOk};
 ghost use Rattle.std.specs.List.{IsDistinct, filter_map};
-ghost use Rattle.std.specs.Option.{option_map, option_map_or, option_to_list};
+ghost use Rattle.std.specs.Option.{option_map, option_to_list};
 ghost use Rattle.uni_table.specs.Changes.{AreEdgeChanges, HasEntityChanges};
-ghost use Rattle.uni_table.specs.GraphChanges.{entity_change_at, has_moved, is_affected, AddsLed, AddsLedBy, AddsMoved, AreAffected};
+ghost use Rattle.uni_table.specs.GraphChanges.{entity_change_at, is_affected_by, ranks_at, untouched_at, AddsLed, AddsLedBy, AddsMoved, AreAffected};
 ghost use Rattle.uni_table.specs.GraphOrder.{placed_change, standing_at};
 ghost use Rattle.uni_table.specs.GraphRows.{contents_of, published_of, IsRows};
 
-use super::numbers::{EdgeNo, Side, Slot};
+use super::numbers::{EdgeNo, Ranks, Side, Slot};
 use super::order::PlacedEdge;
 use super::rows::Rows;
 use crate::{EdgeChange, EdgeRow, EntityChange};
@@ -22,6 +22,13 @@ fn row_with(audience: Option<Audience>, end: u64) -> Option<EdgeRow>
         Some(audience) => Some(EdgeRow { audience, end }),
         None => None,
     }
+}
+
+// Whether an edge differs, or lives and leads to an id with other ranks.
+fn is_affected(slot: &Slot, ranks: Ranks) -> bool
+    ensures { result ≡ is_affected_by slot.now ranks }
+{
+    slot.is_changed() || (slot.state.is_live() && ranks.differ())
 }
 
 /// Adds an item to a list.
@@ -79,21 +86,17 @@ impl Rows {
         self.entity_changes_at(alloc, self.touched_ids.as_slice())
     }
 
-    // Whether the id of a number has another rank than at the last publish.
-    fn has_moved(&self, number: usize) -> bool
-        ensures { result ≡ option_map_or (λ n. has_moved n.1) (slice_get self.now.ids.entries number) false }
+    // The ranks of the id of a number at the last publish and now.
+    fn ranks_at(&self, number: usize) -> Ranks
+        ensures { result ≡ ranks_at self.now number }
     {
         match self.ids.get_index(number) {
-            Some((_, node)) => node.has_moved(),
-            None => false,
+            Some((_, node)) => node.ranks(),
+            None => Ranks {
+                before: None,
+                after: None,
+            },
         }
-    }
-
-    // Whether an edge differs, or lives and leads to an id with another rank.
-    fn is_affected(&self, number: EdgeNo, slot: &Slot) -> bool
-        ensures { result ≡ is_affected self.now (number, slot.now) }
-    {
-        slot.is_changed() || (slot.state.is_live() && self.has_moved(number.target as usize))
     }
 
     // Adds the change of an edge to a list, if it is affected.
@@ -110,7 +113,8 @@ impl Rows {
         let Some((number, slot)) = standing else {
             return Ok(());
         };
-        if !self.is_affected(*number, slot) {
+        let ranks = self.ranks_at(number.target as usize);
+        if !is_affected(slot, ranks) {
             return Ok(());
         }
         let named = self.edge_of(edge);
@@ -127,35 +131,51 @@ impl Rows {
             edge,
             before: row_with(before, end),
             after: row_with(after, slot.end),
+            rank_before: ranks.before,
+            rank_after: ranks.after,
         };
         push(changes, change)
     }
 
-    // Adds the places of the edges that reach the id of a number, gone or not, the last one first.
+    // Adds a place to a list, if it is that of an edge that the batch has not touched.
+    fn add_untouched(&self, place: u32, places: &mut Vec<u32>) -> Result<(), AllocError>
+        ensures { OnOk result (places.new.items ≡ places.old.items ++ option_to_list (untouched_at self.now place)) }
+    {
+        let Some((_, slot)) = self.edges.get_index(place as usize) else {
+            return Ok(());
+        };
+        if !slot.before.is_same() {
+            return Ok(());
+        }
+        push(places, place)
+    }
+
+    // Adds the places of the edges that reach the id of a number and that the batch has not touched, gone or
+    // not, the last one first.
     fn add_led(&self, number: usize, places: &mut Vec<u32>) -> Result<(), AllocError>
         requires { IsRows self.now }
         ensures { OnOk result (AddsLed self.now number places.old.items places.new.items) }
     {
         let mut next = self.last(Side::Target, number);
         while next > 0 {
-            places.push(next - 1)?;
+            self.add_untouched(next - 1, places)?;
             next = self.next(Side::Target, next as usize - 1);
         }
         Ok(())
     }
 
-    // Adds the places of the edges that reach the id of a number, if that has another rank.
+    // Adds the places of such edges, if the id has another rank.
     fn add_led_by(&self, number: usize, places: &mut Vec<u32>) -> Result<(), AllocError>
         requires { IsRows self.now }
         ensures { OnOk result (AddsLedBy self.now number places.old.items places.new.items) }
     {
-        if self.has_moved(number) {
+        if self.ranks_at(number).differ() {
             self.add_led(number, places)?;
         }
         Ok(())
     }
 
-    // Adds the places of the edges that reach ids with another rank.
+    // Adds the places of such edges of all ids with another rank.
     fn add_moved(&self, places: &mut Vec<u32>) -> Result<(), AllocError>
         requires { IsRows self.now }
         ensures { OnOk result (AddsMoved self.now self.now.touched_ids.items places.old.items places.new.items) }
@@ -167,15 +187,20 @@ impl Rows {
         Ok(())
     }
 
-    // The places of all edges that may be affected, each once.
+    // The places of all edges that may be affected, each once. Those that the batch touched are listed once
+    // each, so nothing is sorted where no others reach an id with another rank.
     fn affected(&self, alloc: Global) -> Result<Vec<u32>, AllocError>
         requires { IsRows self.now }
         ensures apart { IfOk result (λ places. IsDistinct nat_eq places.items) }
         ensures whole { IfOk result (λ places. AreAffected self.now places.items) }
     {
         let mut places = Vec::new(alloc);
-        places.extend_from_slice(self.touched_edges.as_slice())?;
         self.add_moved(&mut places)?;
+        let are_others = !places.is_empty();
+        places.extend_from_slice(self.touched_edges.as_slice())?;
+        if !are_others {
+            return Ok(places);
+        }
         places.sort_unstable();
         places.dedup();
         Ok(places)

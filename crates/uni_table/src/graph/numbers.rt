@@ -1,12 +1,12 @@
 //! What the rows of a graph are made of: keys by number, and what stands at them.
 ghost use Rattle.std.specs.Prelude.{◌≡◌};
 ghost use Rattle.uni_table.specs.GraphKeys.{source_input, source_alike};
-ghost use Rattle.uni_table.specs.GraphChanges.{differs_from, has_moved, is_changed, is_changed_entity, is_circle, is_only, is_public, end_before, state_before};
+ghost use Rattle.uni_table.specs.GraphChanges.{differs_from, is_changed, is_changed_entity, is_circle, is_only, is_public, end_before, rank_of, ranks_differ, ranks_of, state_before};
 ghost use Rattle.uni_table.specs.GraphRows.{entity_before, is_ended, is_live, is_same, is_same_entity, next_at, stood, stood_entity, written, written_entity};
 
 use crate::EntityRow;
 use std::hash::{Hash, Hasher};
-use uni_base::Key;
+use uni_base::{Key, Rank};
 
 /// A type and a key: what edges start at.
 #[derive(Clone, Copy, Debug, PartialEq, Eq)]
@@ -92,14 +92,13 @@ impl Node {
         }
     }
 
-    /// Whether its rank differs from that at the last publish, or it was an entity then or is one alone.
-    pub fn has_moved(&self) -> bool
-        ensures { result ≡ has_moved self.now }
+    /// Its ranks at the last publish and now.
+    pub fn ranks(&self) -> Ranks
+        ensures { result ≡ ranks_of self.now }
     {
-        match (self.row_before(), self.row) {
-            (None, None) => false,
-            (Some(before), Some(row)) => before.rank != row.rank,
-            _ => true,
+        Ranks {
+            before: rank_of(self.row_before()),
+            after: rank_of(self.row),
         }
     }
 
@@ -122,6 +121,33 @@ fn differs_from(before: EntityRow, row: Option<EntityRow>) -> bool
     match row {
         Some(row) => before.vertical != row.vertical || before.rank != row.rank,
         None => true,
+    }
+}
+
+// The rank of an entity, if it is one.
+fn rank_of(row: Option<EntityRow>) -> Option<Rank>
+    ensures { result ≡ rank_of row }
+{
+    Some(row?.rank)
+}
+
+/// The ranks of an id at the last publish and now. None where it was or is no entity.
+#[derive(Clone, Copy, Debug)]
+pub(crate) struct Ranks {
+    pub before: Option<Rank>,
+    pub after: Option<Rank>,
+}
+
+impl Ranks {
+    /// Whether they differ.
+    pub fn differ(self) -> bool
+        ensures { result ≡ ranks_differ self }
+    {
+        match (self.before, self.after) {
+            (None, None) => false,
+            (Some(before), Some(after)) => before != after,
+            _ => true,
+        }
     }
 }
 

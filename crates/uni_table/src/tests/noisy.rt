@@ -193,8 +193,10 @@ fn change_of(before: &Table, table: &Table, edge: EdgeRef) -> Option<Option<Edge
         edge,
         before: row_of(before, &edge)?,
         after: row_of(table, &edge)?,
+        rank_before: rank_of(before, edge.target),
+        rank_after: rank_of(table, edge.target),
     };
-    let has_moved = rank_of(before, edge.target) != rank_of(table, edge.target);
+    let has_moved = change.rank_before != change.rank_after;
     if change.before != change.after || (change.after.is_some() && has_moved) {
         Some(Some(change))
     } else {

@@ -1,10 +1,12 @@
-use Rattle.std.proofs.Common.{◌≡◌, ◌-◌, ◌++◌, ◌∷◌, [], inl, inr, ⊎_elim, suc, sym, subst, arith}
+use Rattle.std.proofs.Common.{◌≡◌, ◌-◌, ◌++◌, ◌∙◌, inl, inr, ⊎_elim, suc, sym, ap, subst, arith}
 use Rattle.std.specs.List.{Contains}
+use Rattle.std.specs.Option.{option_to_list}
 use Rattle.std.proofs.lemmas.List.Elements.{Contains-append_left, Contains-push}
+use Rattle.uni_table.specs.GraphChanges.{untouched_at}
 use Rattle.uni_table.specs.declared.graph.numbers.Side.TheVariants.{Target}
 use Rattle.uni_table.proofs.GraphPlaces.{entry-at}
 use Rattle.uni_table.proofs.GraphWalks.{IsAlong, along-start, along-within, along-next, next-le}
-use Rattle.uni_table.proofs.GraphLed.{led-start, led-next}
+use Rattle.uni_table.proofs.GraphLed.{led-added, led-start, led-next}
 use Rattle.uni_table.proofs.graph.rows.Rows.add_led.Goals as goal
 
 pub loop-next-init : goal.loop-next-init
@@ -39,12 +41,12 @@ loop-next-preserved c =
     let next = c.next-next.ensures e.0 e.1 in
     record {
       along = subst (IsAlong rows Target c.args.number) (sym next) (along-next rows c.requires Target c.args.number c.loop-next.next i here along e.0 e.1);
-      added = λ place some. subst (λ ps. Contains ps place) (sym c.in_ok-push.ensures.items)
+      added = λ place some. subst (λ ps. Contains ps place) (sym c.in_ok-add_untouched.ensures)
           (⊎_elim
-          (λ old. Contains-append_left c.loop-next.places.items (i ∷ []) place (c.loop-next.invariant.added place (inl old)))
+          (λ old. Contains-append_left c.loop-next.places.items (option_to_list (untouched_at rows i)) place (c.loop-next.invariant.added place (inl old)))
           (λ led. ⊎_elim
-          (λ same. subst (Contains (c.loop-next.places.items ++ i ∷ [])) same (Contains-push c.loop-next.places.items i))
-          (λ past. Contains-append_left c.loop-next.places.items (i ∷ []) place (c.loop-next.invariant.added place (inr (omega (arith, past, here), led.1))))
+          (λ same. subst (λ o. Contains (c.loop-next.places.items ++ option_to_list o) place) (sym (ap (untouched_at rows) same ∙ led-added rows c.args.number place led.1)) (Contains-push c.loop-next.places.items place))
+          (λ past. Contains-append_left c.loop-next.places.items (option_to_list (untouched_at rows i)) place (c.loop-next.invariant.added place (inr (omega (arith, past, here), led.1))))
           (led-next rows c.requires c.args.number c.loop-next.next i here along e.0 e.1 place led.1 (omega (arith, led.0, next))))
           some);
     }
