@@ -11,6 +11,7 @@ use uni_schema::{HeaderReader, Schema};
 
 mod alike;
 mod noisy;
+mod rebuilt;
 mod scripts;
 mod threads;
 

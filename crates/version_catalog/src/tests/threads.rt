@@ -3,18 +3,32 @@ ghost use Rattle.std.specs.Prelude.{◌≡◌};
 ghost use Rattle.turn_lock.specs.Seats.{SeatRests, seat_turns};
 ghost use Rattle.version_catalog.specs.Seats.{IsFeederOf, IsCompactorOf, IsSessionOf, settings_of};
 
+use super::alike::are_alike;
+use super::rebuilt::{Rebuilt, changes};
 use super::{MANY, Opened, is_put};
 use crate::{Catalogue, Compactor, Feeder, Pinned, Session};
 use std::alloc::Global;
 use std::sync::Wait;
 use std::test::Fail;
 use std::thread::{Threads, join};
-use uni_base::{EntityId, Limits, Rank, read_id};
+use uni_base::Limits;
 
 // How often the feeder publishes.
 const PUBLISHES: u64 = 200;
 
-// Publishes ranks that say the number of the publish.
+// Whether lines, which bars part, are changes that the feeder of a catalogue takes.
+fn are_put(catalogue: &Catalogue, feeder: &mut Feeder, lines: &[u8]) -> bool
+    requires { IsFeederOf catalogue.now feeder.old }
+    ensures { IsFeederOf catalogue.now feeder.new }
+{
+    let mut are_put = true;
+    for line in lines.split(|byte| *byte == b'|') {
+        are_put &= is_put(catalogue, feeder, line);
+    }
+    are_put
+}
+
+// Whether the changes of a publish are taken, and then published by its number.
 fn is_published<R: Wait>(
     rt: &R,
     alloc: Global,
@@ -25,9 +39,8 @@ fn is_published<R: Wait>(
     requires { IsFeederOf catalogue.now feeder.old }
     ensures { IsFeederOf catalogue.now feeder.new }
 {
-    let even = format!(in alloc; "entity user 2 {number}").ok()?;
-    let odd = format!(in alloc; "entity user 1 {number}").ok()?;
-    if !is_put(catalogue, feeder, even.as_bytes()) || !is_put(catalogue, feeder, odd.as_bytes()) {
+    let changes = changes(alloc, number)?;
+    if !are_put(catalogue, feeder, changes.as_bytes()) {
         return Some(false);
     }
     if feeder.turns() >= MANY {
@@ -86,35 +99,28 @@ fn compact_all<R: Wait>(rt: &R, catalogue: &Catalogue, mut compactor: Compactor)
     false
 }
 
-// Whether the ranks of a version say its number, in both replicas of both shards.
-fn is_of_its_number(pinned: &Pinned, even: EntityId, odd: EntityId) -> bool {
-    let number = pinned.version().publishes();
-    let rank = if number == 0 {
-        None
-    } else {
-        Some(Rank((number % (1 << 32)) as u32))
-    };
-    for (at, stack) in pinned.version().stacks().iter().enumerate() {
-        let id = if at < 2 { even } else { odd };
-        if at < 4 && stack.rank_of(id) != rank {
-            return false;
-        }
-    }
-    true
+// Whether a pinned version reads as the one that is rebuilt for its number.
+fn is_rebuilt(alloc: Global, pinned: &Pinned, rebuilt: &mut Rebuilt) -> Option<bool> {
+    let version = rebuilt.version(alloc, pinned.version().publishes())?;
+    are_alike(alloc, pinned.version(), &version)
 }
 
 // Pins until all is published. The numbers never fall.
-fn watch<R: Wait>(rt: &R, catalogue: &Catalogue, mut session: Session) -> Option<bool>
+fn watch<R: Wait>(
+    rt: &R,
+    alloc: Global,
+    catalogue: &Catalogue,
+    mut session: Session,
+) -> Option<bool>
     requires { IsSessionOf catalogue.now session × SeatRests session × (seat_turns session ≡ 0) }
 {
-    let even = read_id(b"2")?;
-    let odd = read_id(b"1")?;
+    let mut rebuilt = Rebuilt::new(alloc)?;
     let mut is_well = true;
     let mut last = 0;
     for _taken in 0..MANY {
         let pinned = catalogue.pin(rt, &mut session).ok()?;
         let number = pinned.version().publishes();
-        is_well &= last <= number && is_of_its_number(&pinned, even, odd);
+        is_well &= last <= number && is_rebuilt(alloc, &pinned, &mut rebuilt)?;
         last = number;
         if last == PUBLISHES {
             return Some(is_well);
@@ -125,6 +131,7 @@ fn watch<R: Wait>(rt: &R, catalogue: &Catalogue, mut session: Session) -> Option
 
 fn watch_two<R: Threads + Wait + Sync>(
     rt: &R,
+    alloc: Global,
     catalogue: &Catalogue,
     first: Session,
     second: Session,
@@ -136,35 +143,61 @@ fn watch_two<R: Threads + Wait + Sync>(
         rt,
         || -> Option<bool>
             requires { IsSessionOf catalogue.now first × SeatRests first × (seat_turns first ≡ 0) }
-        { watch(rt, catalogue, first) },
+        { watch(rt, alloc, catalogue, first) },
         || -> Option<bool>
             requires { IsSessionOf catalogue.now second × SeatRests second × (seat_turns second ≡ 0) }
-        { watch(rt, catalogue, second) },
+        { watch(rt, alloc, catalogue, second) },
     );
     one == Some(true) && two == Some(true)
 }
 
 fn compact_and_watch<R: Threads + Wait + Sync>(
     rt: &R,
+    alloc: Global,
     catalogue: &Catalogue,
     compactor: Compactor,
-    first: Session,
-    second: Session,
+    session: Session,
 ) -> bool
     requires compactor { IsCompactorOf catalogue.now compactor }
-    requires first { IsSessionOf catalogue.now first × SeatRests first × (seat_turns first ≡ 0) }
-    requires second { IsSessionOf catalogue.now second × SeatRests second × (seat_turns second ≡ 0) }
+    requires session { IsSessionOf catalogue.now session × SeatRests session × (seat_turns session ≡ 0) }
 {
-    let (compacts, watches) = join(
+    let (compacts, watched) = join(
         rt,
         || -> bool
             requires { IsCompactorOf catalogue.now compactor }
         { compact_all(rt, catalogue, compactor) },
-        || -> bool
-            requires { IsSessionOf catalogue.now first × SeatRests first × (seat_turns first ≡ 0) × IsSessionOf catalogue.now second × SeatRests second × (seat_turns second ≡ 0) }
-        { watch_two(rt, catalogue, first, second) },
+        || -> Option<bool>
+            requires { IsSessionOf catalogue.now session × SeatRests session × (seat_turns session ≡ 0) }
+        { watch(rt, alloc, catalogue, session) },
     );
-    compacts && watches
+    compacts && watched == Some(true)
+}
+
+// What a compactor and three sessions do at once.
+fn others<R: Threads + Wait + Sync>(
+    rt: &R,
+    alloc: Global,
+    catalogue: &Catalogue,
+    compactor: Compactor,
+    first: Session,
+    second: Session,
+    third: Session,
+) -> bool
+    requires compactor { IsCompactorOf catalogue.now compactor }
+    requires first { IsSessionOf catalogue.now first × SeatRests first × (seat_turns first ≡ 0) }
+    requires second { IsSessionOf catalogue.now second × SeatRests second × (seat_turns second ≡ 0) }
+    requires third { IsSessionOf catalogue.now third × SeatRests third × (seat_turns third ≡ 0) }
+{
+    let (one, two) = join(
+        rt,
+        || -> bool
+            requires { IsCompactorOf catalogue.now compactor × IsSessionOf catalogue.now first × SeatRests first × (seat_turns first ≡ 0) }
+        { compact_and_watch(rt, alloc, catalogue, compactor, first) },
+        || -> bool
+            requires { IsSessionOf catalogue.now second × SeatRests second × (seat_turns second ≡ 0) × IsSessionOf catalogue.now third × SeatRests third × (seat_turns third ≡ 0) }
+        { watch_two(rt, alloc, catalogue, second, third) },
+    );
+    one && two
 }
 
 #[test]
@@ -182,11 +215,12 @@ fn all_at_once(rt: HostRuntime) -> Result<(), Fail> {
     }
     let first = catalogue.session(&mut feeder);
     let second = catalogue.session(&mut feeder);
+    let third = catalogue.session(&mut feeder);
     let shared = &catalogue;
     let (feeds, others) = join(
         &rt,
         || feed(&rt, alloc, shared, feeder),
-        || compact_and_watch(&rt, shared, compactor, first, second),
+        || others(&rt, alloc, shared, compactor, first, second, third),
     );
     assert!(rt; feeds && others);
     Ok(())

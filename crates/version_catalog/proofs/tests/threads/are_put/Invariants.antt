@@ -1,0 +1,6 @@
+-- the feeder stays that of the catalogue
+use Rattle.version_catalog.specs.Seats.{IsFeederOf}
+use Rattle.version_catalog.proofs.tests.threads.are_put.Given as goal
+
+abbrev pub invariant-loop-line : goal.invariant-loop-line
+invariant-loop-line g l = IsFeederOf l.catalogue l.feeder

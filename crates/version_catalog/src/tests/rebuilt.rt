@@ -1,0 +1,69 @@
+//! Versions that are rebuilt from the changes of their publishes.
+use super::schema;
+use feed_reader::{FeedLine, read_feed_line};
+use shard_index::Version;
+use std::alloc::Global;
+use std::sync::Arc;
+use uni_base::Limits;
+use uni_table::Table;
+
+// The changes of a publish, which bars part: ranks that say its number, an edge that comes and goes, and one
+// that ends two publishes later.
+pub(super) fn changes(alloc: Global, number: u64) -> Option<String> {
+    let end = number.checked_add(2)?;
+    let friend = if number.is_multiple_of(2) {
+        "cut friend 1 2"
+    } else {
+        "edge friend 1 2 public"
+    };
+    let changes = format!(in alloc;
+        "entity user 2 {number}|entity user 1 {number}|{friend}|edge lives rome 1 public until {end}"
+    );
+    changes.ok()
+}
+
+// A table to which the changes of so many publishes were put.
+#[derive(Drop)]
+pub(super) struct Rebuilt {
+    table: Table,
+    publishes: u64,
+}
+
+impl Rebuilt {
+    pub(super) fn new(alloc: Global) -> Option<Rebuilt> {
+        let schema = Arc::new(alloc, schema(alloc)?).ok()?;
+        Some(Rebuilt {
+            table: Table::new(alloc, schema, Limits::standard()),
+            publishes: 0,
+        })
+    }
+
+    // Whether a line is a change that the table takes.
+    fn is_put(&mut self, line: &[u8]) -> bool {
+        let Ok(FeedLine::Change(command)) = read_feed_line(self.table.schema(), line) else {
+            return false;
+        };
+        self.table.put(&command).is_ok()
+    }
+
+    fn publish(&mut self, alloc: Global, number: u64) -> Option<()> {
+        let changes = changes(alloc, number)?;
+        for line in changes.as_bytes().split(|byte| *byte == b'|') {
+            if !self.is_put(line) {
+                return None;
+            }
+        }
+        self.table.end(number);
+        self.table.begin_batch();
+        self.publishes = number;
+        Some(())
+    }
+
+    // The version of a number, which is none before the last one that was asked for.
+    pub(super) fn version(&mut self, alloc: Global, number: u64) -> Option<Version> {
+        for before in self.publishes..number {
+            self.publish(alloc, before + 1)?;
+        }
+        Version::of_table(alloc, &self.table, number).ok()
+    }
+}
