@@ -21,14 +21,14 @@ use Rattle.script_rounds.specs.Terms.{Terms}
 use Rattle.unicorn_round.specs.declared.stacks.StackCover.{StackCover}
 use Rattle.unicorn_round.specs.Answers.{Standing, opening_standing, after_entry, after_entries, after_round, after_rounds, at_end, answers, entry_answers, entries_answers, round_answers, replies}
 use Rattle.unicorn_round.specs.Checking.{is_checked, checked_lines, checked_text}
-use Rattle.unicorn_round.specs.CheckState.{CheckState, ChecksFor, EntryChecked, EntriesChecked, RoundsChecked, opening_check}
+use Rattle.unicorn_round.specs.CheckState.{CheckState, ChecksFor, EntryChecked, EntriesChecked, RoundsChecked, check_terms, opening_check}
 use Rattle.round_feed.specs.Feeds.{made, changed, published, publish_answers, refusal_answers, too_many_publishes}
 use Rattle.unicorn_round.specs.Marks.{Mark, lacking, RoundRecord}
 use Rattle.unicorn_round.specs.Plain.{plain_mark, plain_marks, plain_round}
 use Rattle.unicorn_round.specs.Records.{IsMarked, IsRoundRecord}
 use Rattle.unicorn_round.specs.Stacks.{is_due, rows_of, tidy_answer, tidy_answers}
-use Rattle.unicorn_round.proofs.RoundSteps.{none_untidied}
-use Rattle.unicorn_round.proofs.ServingSteps.{lt_true, lt_false, after_lacking}
+use Rattle.unicorn_round.proofs.LineByLine.{none_done, one_more_done, marks_each, round_more_done}
+use Rattle.unicorn_round.proofs.ServingSteps.{lt_true, lt_false, after_lacking, reading_lacks}
 use Rattle.round_feed.proofs.Steps.{after-snoc, given-snoc, each-snoc, marked_by-snoc, marked_by-length}
 use Rattle.unicorn_round.proofs.Texts.{text_of-append, lines_of_answers-append}
 
@@ -119,17 +119,7 @@ check_lacking state s entry st able = record {
 pub check_unread : (state : CheckState) (s : Standing) (entry : Entry) (line : ℕ) → ChecksFor state s → (reads_query entry ≡ true) × (line_of entry ≡ line)
     → EntryChecked state.terms s entry state (Memory line ∷ [])
 check_unread state s entry line st is =
-    subst (λ l. EntryChecked state.terms s entry state (Memory l ∷ [])) is.1 (check_lacking state s entry st (able entry is.0))
-  where
-    able : (entry : Entry) → reads_query entry ≡ true → IsMarked entry lacking
-    able (ask line session viewer limit query) reads = tt
-    able (query_fault line code column) reads = tt
-    able (change line command) reads = absurd cc
-    able (publish line) reads = absurd cc
-    able (compact line vertical shard replica) reads = absurd cc
-    able (stats line) reads = absurd cc
-    able (refused line code) reads = absurd cc
-    able (fault line code) reads = absurd cc
+    subst (λ l. EntryChecked state.terms s entry state (Memory l ∷ [])) is.1 (check_lacking state s entry st (reading_lacks entry is.0))
 
 -- a publish
 pub check_published : (old new : CheckState) (s : Standing) (line : ℕ) → ChecksFor old s → old.publishes < old.terms.limits.publishes
@@ -212,26 +202,19 @@ check_query state s line code column st = record { lacks = false; marked = tt; s
 
 -- no entry yet
 pub none_checked : (state : CheckState) (s : Standing) → ChecksFor state s → EntriesChecked state.terms s [] state []
-none_checked state s st = record { lacks = []; one_each = refl; marks = []; are = refl; marked = tt; stands = st; writes = λ end. refl }
+none_checked state s st = record { marks = []; done = none_done ChecksFor state.terms s state st; writes = λ end. refl }
 
 -- and one more
 pub one_more_checked : (terms : Terms) (s : Standing) (entries : List Entry) (entry : Entry) (mid after : CheckState) (text : List ℕ) (shown : List Answer) (a : EntriesChecked terms s entries mid text)
     → EntryChecked terms (after_entries terms s entries a.marks) entry after shown → EntriesChecked terms s (entries ++ entry ∷ []) after (text ++ answers_text terms.schema shown)
 one_more_checked terms s entries entry mid after text shown a b = record {
-  lacks = a.lacks ++ b.lacks ∷ [];
-  one_each = omega (arith, a.one_each, length-append a.lacks (b.lacks ∷ []), length-append entries (entry ∷ []));
   marks = a.marks ++ mark ∷ [];
-  are =
-      ap (λ marks. marks ++ plain_mark (made now.feed) entry b.lacks ∷ []) a.are
-      ∙ ap (λ marks. plain_marks terms s entries a.lacks ++ plain_mark (made (after_entries terms s entries marks).feed) entry b.lacks ∷ []) a.are
-      ∙ sym (marked_by-snoc (after_entry terms) (λ at. plain_mark (made at.feed)) s entries a.lacks entry b.lacks a.one_each);
-  marked = each-snoc (λ none e m. none) (λ none. IsMarked) tt entries a.marks entry mark a.marked b.marked;
-  stands = subst (ChecksFor after) (sym (after-snoc (after_entry terms) s entries a.marks entry mark one_each)) b.stands;
+  done = one_more_done ChecksFor terms s entries a.marks entry mid after b.lacks a.done b.marked b.stands;
   writes = λ end.
       ap (λ t. t ++ answers_text terms.schema shown) (a.writes end)
       ∙ ap (λ ls. checked_text terms.schema (entries_answers terms (replies terms.schema) end s entries a.marks) ++ text_of ls) (sym (b.lines end))
       ∙ sym (checked_text-append terms.schema (entries_answers terms (replies terms.schema) end s entries a.marks) (entry_answers terms (replies terms.schema) end now.feed entry mark))
-      ∙ ap (checked_text terms.schema) (sym (given-snoc (after_entry terms) (λ at. entry_answers terms (replies terms.schema) end at.feed) s entries a.marks entry mark one_each));
+      ∙ ap (checked_text terms.schema) (sym (given-snoc (after_entry terms) (λ at. entry_answers terms (replies terms.schema) end at.feed) s entries a.marks entry mark (marks_each ChecksFor terms s entries a.marks mid a.done)));
 }
   where
     now : Standing
@@ -240,44 +223,17 @@ one_more_checked terms s entries entry mid after text shown a b = record {
     mark : Mark
     mark = plain_mark (made now.feed) entry b.lacks
 
-    one_each : length a.marks ≡ length entries
-    one_each = ap length a.are ∙ marked_by-length (after_entry terms) (λ at. plain_mark (made at.feed)) s entries a.lacks a.one_each
-
 -- no round yet
 pub no_rounds_checked : (terms : Terms) → RoundsChecked terms [] (opening_check terms) []
-no_rounds_checked terms = record {
-  is_under = refl;
-  lacks = [];
-  one_each = refl;
-  told = [];
-  is = refl;
-  is_record = tt;
-  stands = record { table = refl; publishes = refl };
-  writes = refl;
-}
+no_rounds_checked terms = record { is_under = refl; lacks = []; one_each = refl; told = []; is = refl; is_record = tt; there = record { table = refl; publishes = refl }; writes = refl }
 
 -- and one more
 pub round_checked : (terms : Terms) (rounds : List (List Entry)) (entries : List Entry) (before after : CheckState) (text more : List ℕ)
     (r : RoundsChecked terms rounds before text) → EntriesChecked terms (after_rounds terms (opening_standing terms) rounds r.told) entries after more → after.terms ≡ terms
     → RoundsChecked terms (rounds ++ entries ∷ []) after (text ++ more)
-round_checked terms rounds entries before after text more r a under = record {
-  is_under = under;
-  lacks = r.lacks ++ a.lacks ∷ [];
-  one_each = omega (arith, r.one_each, length-append r.lacks (a.lacks ∷ []), length-append rounds (entries ∷ []));
-  told = r.told ++ one ∷ [];
-  is =
-      ap (λ marks. r.told ++ record { marks = marks; untidied = [] } ∷ []) a.are
-      ∙ ap (λ told. told ++ plain_round terms (after_rounds terms (opening_standing terms) rounds told) entries a.lacks ∷ []) r.is
-      ∙ sym (marked_by-snoc (after_round terms) (plain_round terms) (opening_standing terms) rounds r.lacks entries a.lacks r.one_each);
-  is_record = each-snoc (after_round terms) (IsRoundRecord terms) (opening_standing terms) rounds r.told entries one r.is_record
-      (record { marked = a.marked; untidied = sym (none_untidied (made last.feed) last.covers) });
-  stands = subst (ChecksFor after) (sym (after-snoc (after_round terms) (opening_standing terms) rounds r.told entries one told_each)) (record { table = a.stands.table; publishes = a.stands.publishes });
-  writes =
-      ap (λ t. t ++ more) r.writes
-      ∙ ap (λ t. checked_text terms.schema (answers terms rounds r.told) ++ t) (a.writes (at_end one last) ∙ sym round_is)
-      ∙ sym (checked_text-append terms.schema (answers terms rounds r.told) (round_answers terms (replies terms.schema) now entries one))
-      ∙ ap (checked_text terms.schema) (sym (given-snoc (after_round terms) (round_answers terms (replies terms.schema)) (opening_standing terms) rounds r.told entries one told_each));
-}
+round_checked terms rounds entries before after text more r a under =
+    round_more_done ChecksFor terms check_terms checked_text (checked_text-append terms.schema) rounds entries a.marks before after after text more r a.done under
+    (record { table = a.done.there.table; publishes = a.done.there.publishes }) (a.writes (at_end one last) ∙ sym round_is)
   where
     now : Standing
     now = after_rounds terms (opening_standing terms) rounds r.told
@@ -287,9 +243,6 @@ round_checked terms rounds entries before after text more r a under = record {
 
     last : Standing
     last = after_entries terms now entries a.marks
-
-    told_each : length r.told ≡ length rounds
-    told_each = ap length r.is ∙ marked_by-length (after_round terms) (plain_round terms) (opening_standing terms) rounds r.lacks r.one_each
 
     lines : List Answer
     lines = entries_answers terms (replies terms.schema) (at_end one last) now entries a.marks

@@ -11,6 +11,7 @@ mod FedAnswers
 mod Fitting
 mod Items
 mod JournalSteps
+mod LineByLine
 mod Lines
 mod Lists
 mod Made

@@ -12,8 +12,9 @@ use Rattle.round_feed.specs.Feeds.{Feed, made, fed_one}
 use Rattle.unicorn_round.specs.Marks.{Mark, lacks, RoundRecord}
 use Rattle.unicorn_round.specs.Plain.{plain_mark, plain_marks, plain_round}
 use Rattle.unicorn_round.specs.Records.{IsMarked, IsRoundRecord}
-use Rattle.unicorn_round.specs.Serving.{Serving, StandsFor, Answered, AllAnswered, RoundsAnswered, IsLater, filled, filled_at, opening_serving}
+use Rattle.unicorn_round.specs.Serving.{Serving, StandsFor, Answered, AllAnswered, RoundsAnswered, IsLater, filled, filled_at, opening_serving, serving_terms}
 use Rattle.unicorn_round.specs.Stacks.{is_due, is_untidied, due_untidied, tidy, tidy_answer, tidy_answers, name_of}
+use Rattle.unicorn_round.proofs.LineByLine.{none_done, one_more_done, marks_each, round_more_done}
 use Rattle.unicorn_round.proofs.Lists.{map_append}
 use Rattle.unicorn_round.proofs.JournalSteps.{later-refl, later-trans}
 use Rattle.round_feed.proofs.Steps.{after-snoc, given-snoc, each-snoc, marked_by-snoc, marked_by-length}
@@ -47,29 +48,14 @@ entry_later terms s entry mark = fed_later terms s.feed entry (lacks mark)
 
 -- no entry yet
 pub none_answered : (serving : Serving) (s : Standing) → StandsFor serving s → AllAnswered serving.terms s [] serving []
-none_answered serving s st = record {
-  lacks = [];
-  one_each = refl;
-  marks = [];
-  are = refl;
-  marked = tt;
-  stands = st;
-  answers = λ end later. refl;
-}
+none_answered serving s st = record { marks = []; done = none_done StandsFor serving.terms s serving st; answers = λ end later. refl }
 
 -- and one more
 pub one_more_answered : (terms : Terms) (s : Standing) (entries : List Entry) (entry : Entry) (mid after : Serving) (drafts more : List Answer) (a : AllAnswered terms s entries mid drafts)
     → Answered terms (after_entries terms s entries a.marks) entry after more → AllAnswered terms s (entries ++ entry ∷ []) after (drafts ++ more)
 one_more_answered terms s entries entry mid after drafts more a b = record {
-  lacks = a.lacks ++ b.lacks ∷ [];
-  one_each = omega (arith, a.one_each, length-append a.lacks (b.lacks ∷ []), length-append entries (entry ∷ []));
   marks = a.marks ++ mark ∷ [];
-  are =
-      ap (λ marks. marks ++ plain_mark (made now.feed) entry b.lacks ∷ []) a.are
-      ∙ ap (λ marks. plain_marks terms s entries a.lacks ++ plain_mark (made (after_entries terms s entries marks).feed) entry b.lacks ∷ []) a.are
-      ∙ sym (marked_by-snoc (after_entry terms) (λ at. plain_mark (made at.feed)) s entries a.lacks entry b.lacks a.one_each);
-  marked = each-snoc (λ none e m. none) (λ none. IsMarked) tt entries a.marks entry mark a.marked b.marked;
-  stands = subst (StandsFor after) (sym last) b.stands;
+  done = one_more_done StandsFor terms s entries a.marks entry mid after b.lacks a.done b.marked b.stands;
   answers = λ end later.
       map_append (filled end) drafts more
       ∙ ap (λ xs. xs ++ map (filled end) more) (a.answers end (earlier end later))
@@ -84,7 +70,7 @@ one_more_answered terms s entries entry mid after drafts more a b = record {
     mark = plain_mark (made now.feed) entry b.lacks
 
     one_each : length a.marks ≡ length entries
-    one_each = ap length a.are ∙ marked_by-length (after_entry terms) (λ at. plain_mark (made at.feed)) s entries a.lacks a.one_each
+    one_each = marks_each StandsFor terms s entries a.marks mid a.done
 
     last : after_entries terms s (entries ++ entry ∷ []) (a.marks ++ mark ∷ []) ≡ after_entry terms now entry mark
     last = after-snoc (after_entry terms) s entries a.marks entry mark one_each
@@ -94,15 +80,6 @@ one_more_answered terms s entries entry mid after drafts more a b = record {
     earlier end later =
         later-trans now.feed.journal (after_entry terms now entry mark).feed.journal end.feed.journal (entry_later terms now entry mark)
         (subst (λ (at : Standing). IsLater at.feed.journal end.feed.journal) last later)
-
--- no stack is left untidied
-pub none_untidied : (number : ℕ) (covers : List StackCover) → due_untidied number [] covers ≡ []
-none_untidied number [] = refl
-none_untidied number (cover ∷ covers) = by (none_untidied number covers) (is_due number cover)
-  where
-    by : due_untidied number [] covers ≡ [] → (b : Bool) → map name_of (if (b && false) then cover ∷ filter (λ c. is_due number c && is_untidied [] c) covers else filter (λ c. is_due number c && is_untidied [] c) covers) ≡ []
-    by rest true = rest
-    by rest false = rest
 
 -- the answers of stacks at a round's end stay as they are
 tidied_filled : (end : Standing) (number : ℕ) (covers : List StackCover) → map (filled end) (tidy_answers number [] covers) ≡ tidy_answers number [] covers
@@ -124,7 +101,7 @@ no_rounds terms = record {
   told = [];
   is = refl;
   is_record = tt;
-  stands = record { pending = refl; batch = refl; published = refl; publishes = refl; covers = refl; feed = record { table = refl; accepted = refl } };
+  there = record { pending = refl; batch = refl; published = refl; publishes = refl; covers = refl; feed = record { table = refl; accepted = refl } };
   writes = refl;
 }
 
@@ -134,24 +111,9 @@ pub round_more : (terms : Terms) (rounds : List (List Entry)) (entries : List En
     → after ≡ record mid { covers = map (tidy mid.publishes []) mid.covers }
     → more ≡ answers_text terms.schema (map (filled_at after.publishes after.covers) (drafts ++ tidy_answers mid.publishes [] mid.covers))
     → RoundsAnswered terms (rounds ++ entries ∷ []) after (text ++ more)
-round_more terms rounds entries before mid after drafts text more r a under is writes = record {
-  is_under = ap (λ (n : Serving). n.terms) is ∙ under;
-  lacks = r.lacks ++ a.lacks ∷ [];
-  one_each = omega (arith, r.one_each, length-append r.lacks (a.lacks ∷ []), length-append rounds (entries ∷ []));
-  told = r.told ++ one ∷ [];
-  is =
-      ap (λ marks. r.told ++ record { marks = marks; untidied = [] } ∷ []) a.are
-      ∙ ap (λ told. told ++ plain_round terms (after_rounds terms (opening_standing terms) rounds told) entries a.lacks ∷ []) r.is
-      ∙ sym (marked_by-snoc (after_round terms) (plain_round terms) (opening_standing terms) rounds r.lacks entries a.lacks r.one_each);
-  is_record = each-snoc (after_round terms) (IsRoundRecord terms) (opening_standing terms) rounds r.told entries one r.is_record
-      (record { marked = a.marked; untidied = sym (none_untidied (made last.feed) last.covers) });
-  stands = subst (StandsFor after) (sym there) ended_stands;
-  writes =
-      ap (λ t. t ++ more) r.writes
-      ∙ ap (λ t. answers_text terms.schema (answers terms rounds r.told) ++ t) (writes ∙ ap (answers_text terms.schema) (filled_is ∙ round_is))
-      ∙ sym (texts (answers terms rounds r.told) (round_answers terms (replies terms.schema) now entries one))
-      ∙ ap (answers_text terms.schema) (sym (given-snoc (after_round terms) (round_answers terms (replies terms.schema)) (opening_standing terms) rounds r.told entries one told_each));
-}
+round_more terms rounds entries before mid after drafts text more r a under is writes =
+    round_more_done StandsFor terms serving_terms answers_text (answers_text-append terms.schema) rounds entries a.marks before mid after text more r a.done
+    (ap (λ (n : Serving). n.terms) is ∙ under) ended_stands (writes ∙ ap (answers_text terms.schema) (filled_is ∙ round_is))
   where
     now : Standing
     now = after_rounds terms (opening_standing terms) rounds r.told
@@ -162,39 +124,33 @@ round_more terms rounds entries before mid after drafts text more r a under is w
     last : Standing
     last = after_entries terms now entries a.marks
 
-    told_each : length r.told ≡ length rounds
-    told_each = ap length r.is ∙ marked_by-length (after_round terms) (plain_round terms) (opening_standing terms) rounds r.lacks r.one_each
-
-    there : after_rounds terms (opening_standing terms) (rounds ++ entries ∷ []) (r.told ++ one ∷ []) ≡ at_end one last
-    there = after-snoc (after_round terms) (opening_standing terms) rounds r.told entries one told_each
+    at_last : StandsFor mid last
+    at_last = a.done.there
 
     covers_are : map (tidy mid.publishes []) mid.covers ≡ map (tidy (made last.feed) []) last.covers
-    covers_are = ap (λ n. map (tidy n []) mid.covers) a.stands.publishes ∙ ap (map (tidy (made last.feed) [])) a.stands.covers
+    covers_are = ap (λ n. map (tidy n []) mid.covers) at_last.publishes ∙ ap (map (tidy (made last.feed) [])) at_last.covers
 
     ended_stands : StandsFor after (at_end one last)
     ended_stands = subst (λ n. StandsFor n (at_end one last)) (sym is) (record {
-      pending = a.stands.pending;
-      batch = a.stands.batch;
-      published = a.stands.published;
-      publishes = a.stands.publishes;
+      pending = at_last.pending;
+      batch = at_last.batch;
+      published = at_last.published;
+      publishes = at_last.publishes;
       covers = covers_are;
-      feed = a.stands.feed;
+      feed = at_last.feed;
     })
 
     filled_is : map (filled_at after.publishes after.covers) (drafts ++ tidy_answers mid.publishes [] mid.covers)
         ≡ map (filled (at_end one last)) (drafts ++ tidy_answers (made last.feed) [] last.covers)
     filled_is =
         ap (λ (n : Serving). map (filled_at n.publishes n.covers) (drafts ++ tidy_answers mid.publishes [] mid.covers)) is
-        ∙ ap (λ n. map (filled_at n (map (tidy mid.publishes []) mid.covers)) (drafts ++ tidy_answers mid.publishes [] mid.covers)) a.stands.publishes
+        ∙ ap (λ n. map (filled_at n (map (tidy mid.publishes []) mid.covers)) (drafts ++ tidy_answers mid.publishes [] mid.covers)) at_last.publishes
         ∙ ap (λ cs. map (filled_at (made last.feed) cs) (drafts ++ tidy_answers mid.publishes [] mid.covers)) covers_are
-        ∙ ap (λ n. map (filled (at_end one last)) (drafts ++ tidy_answers n [] mid.covers)) a.stands.publishes
-        ∙ ap (λ cs. map (filled (at_end one last)) (drafts ++ tidy_answers (made last.feed) [] cs)) a.stands.covers
+        ∙ ap (λ n. map (filled (at_end one last)) (drafts ++ tidy_answers n [] mid.covers)) at_last.publishes
+        ∙ ap (λ cs. map (filled (at_end one last)) (drafts ++ tidy_answers (made last.feed) [] cs)) at_last.covers
 
     round_is : map (filled (at_end one last)) (drafts ++ tidy_answers (made last.feed) [] last.covers) ≡ round_answers terms (replies terms.schema) now entries one
     round_is =
         map_append (filled (at_end one last)) drafts (tidy_answers (made last.feed) [] last.covers)
         ∙ ap (λ xs. xs ++ map (filled (at_end one last)) (tidy_answers (made last.feed) [] last.covers)) (a.answers (at_end one last) (later-refl last.feed.journal))
         ∙ ap (λ xs. entries_answers terms (replies terms.schema) (at_end one last) now entries a.marks ++ xs) (tidied_filled (at_end one last) (made last.feed) last.covers)
-
-    texts : (xs ys : List Answer) → answers_text terms.schema (xs ++ ys) ≡ answers_text terms.schema xs ++ answers_text terms.schema ys
-    texts xs ys = answers_text-append terms.schema xs ys

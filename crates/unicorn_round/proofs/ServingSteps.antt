@@ -92,6 +92,12 @@ change_refused serving s line command refusal code st some is = record {
     coded = rw is refl
 
 -- an entry for which memory was wanting has no effect
+-- memory may be wanting for an entry that reads a query
+pub reading_lacks : (entry : Entry) → reads_query entry ≡ true → IsMarked entry lacking
+reading_lacks (ask line session viewer limit query) reads = tt
+reading_lacks (query_fault line code column) reads = tt
+reading_lacks entry reads = absurd cc
+
 pub after_lacking : (terms : Terms) (s : Standing) (entry : Entry) → after_entry terms s entry lacking ≡ s
 after_lacking terms s (change line command) = refl
 after_lacking terms s (publish line) = refl
@@ -115,17 +121,7 @@ lacking_answered serving s entry st able = record {
 pub unread_answered : (serving : Serving) (s : Standing) (entry : Entry) (line : ℕ) → StandsFor serving s → (reads_query entry ≡ true) × (line_of entry ≡ line)
     → Answered serving.terms s entry serving (Memory line ∷ [])
 unread_answered serving s entry line st is =
-    subst (λ l. Answered serving.terms s entry serving (Memory l ∷ [])) is.1 (lacking_answered serving s entry st (able entry is.0))
-  where
-    able : (entry : Entry) → reads_query entry ≡ true → IsMarked entry lacking
-    able (ask line session viewer limit query) reads = tt
-    able (query_fault line code column) reads = tt
-    able (change line command) reads = absurd cc
-    able (publish line) reads = absurd cc
-    able (compact line vertical shard replica) reads = absurd cc
-    able (stats line) reads = absurd cc
-    able (refused line code) reads = absurd cc
-    able (fault line code) reads = absurd cc
+    subst (λ l. Answered serving.terms s entry serving (Memory l ∷ [])) is.1 (lacking_answered serving s entry st (reading_lacks entry is.0))
 
 -- a publish that makes a version
 pub publish_made : (old new : Serving) (s : Standing) (line : ℕ) → StandsFor old s → old.publishes < old.terms.limits.publishes

@@ -90,17 +90,17 @@ module _ (terms : Terms) (end : Standing) where
   lines_woven s (entry ∷ entries) (Refused line code ∷ items) lacks asked compacted low from to are fit rise same replied done =
       let told = answer.Refused line code in
       subst (λ e. AreWoven terms end s (e ∷ entries) (lines_of (Refused line code ∷ items)) lacks asked compacted low) (sym are.0)
-      (told_woven terms end s (refused line code) entries plain told (slot.Told told) (lines_of items) lacks asked compacted low
+      (told_woven terms end s (refused line code) entries plain told (slot.Refused line code) (lines_of items) lacks asked compacted low
       refl tt refl refl (λ slots fed. refl) (lines_woven s entries items lacks asked compacted low line to are.1 fit.1 rise.1 same replied done))
   lines_woven s (entry ∷ entries) (Fault line code ∷ items) lacks asked compacted low from to are fit rise same replied done =
       let told = answer.Fault line code in
       subst (λ e. AreWoven terms end s (e ∷ entries) (lines_of (Fault line code ∷ items)) lacks asked compacted low) (sym are.0)
-      (told_woven terms end s (fault line code) entries plain told (slot.Told told) (lines_of items) lacks asked compacted low
+      (told_woven terms end s (fault line code) entries plain told (slot.Fault line code) (lines_of items) lacks asked compacted low
       refl tt refl refl (λ slots fed. refl) (lines_woven s entries items lacks asked compacted low line to are.1 fit.1 rise.1 same replied done))
   lines_woven s (entry ∷ entries) (QueryFault line code column ∷ items) lacks asked compacted low from to are fit rise same replied done =
       let told = answer.QueryFault line code column in
       subst (λ e. AreWoven terms end s (e ∷ entries) (lines_of (QueryFault line code column ∷ items)) lacks asked compacted low) (sym are.0)
-      (told_woven terms end s (query_fault line code column) entries plain told (slot.Told told) (lines_of items) lacks asked compacted low
+      (told_woven terms end s (query_fault line code column) entries plain told (slot.QueryFault line code column) (lines_of items) lacks asked compacted low
       tt tt refl refl (λ slots fed. refl) (lines_woven s entries items lacks asked compacted low line to are.1 fit.1 rise.1 same replied done))
   lines_woven s (entry ∷ entries) (Memory line ∷ items) lacks asked compacted low from to are fit rise same replied done =
       unread_woven terms end s entry line entries (lines_of items) lacks asked compacted low are.0

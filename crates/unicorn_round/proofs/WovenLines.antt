@@ -26,7 +26,7 @@ use Rattle.unicorn_round.proofs.AskedPlaces.{ask_line, by_place, popped-same, re
 use Rattle.unicorn_round.proofs.FedAnswers.{AreAfter, IsOwn, Passes, own_is, others_are, fed_own, given_passes}
 use Rattle.unicorn_round.proofs.MarkReading.{feed_mark, feed_mark-none, first_mark, first_mark-some, replied_within, replied_between, reply_is, compacted_within, compacted_between, compacted_is, compacted_covers-more}
 use Rattle.unicorn_round.proofs.Numbers.{numbers_more, numbers_passing, numbers_failing, numbers_without, between_without, between_failing, within_without}
-use Rattle.unicorn_round.proofs.ServingSteps.{after_lacking}
+use Rattle.unicorn_round.proofs.ServingSteps.{after_lacking, reading_lacks}
 
 -- the lines of a round by who answers them: the slots of all, the entries of the feed, the asks by place, and
 -- the compactions
@@ -144,15 +144,10 @@ module _ (terms : Terms) (end : Standing) where
   pub unread_woven : (s : Standing) (entry : Entry) (line : ℕ) (entries : List Entry) (lines : Lines) (lacks : List Bool) (asked : ℕ → List Answer) (compacted : List Answer) (low : ℕ)
       → (reads_query entry ≡ true) × (line_of entry ≡ line)
       → AreWoven terms end s entries lines lacks asked compacted low
-      → AreWoven terms end s (entry ∷ entries) (record lines { slots = slot.Told (answer.Memory line) ∷ lines.slots }) lacks asked compacted low
+      → AreWoven terms end s (entry ∷ entries) (record lines { slots = slot.Memory line ∷ lines.slots }) lacks asked compacted low
   unread_woven s entry line entries lines lacks asked compacted low is w =
-      told_woven s entry entries lacking (answer.Memory line) (slot.Told (answer.Memory line)) lines lacks asked compacted low
-      (able entry is.0) tt (after_lacking terms s entry) (ap (λ n. answer.Memory n ∷ []) is.1) (λ slots fed. refl) w
-    where
-      able : (entry : Entry) → reads_query entry ≡ true → IsMarked entry lacking
-      able (ask line session viewer limit query) reads = tt
-      able (query_fault line code column) reads = tt
-      able entry reads = absurd cc
+      told_woven s entry entries lacking (answer.Memory line) (slot.Memory line) lines lacks asked compacted low
+      (reading_lacks entry is.0) tt (after_lacking terms s entry) (ap (λ n. answer.Memory n ∷ []) is.1) (λ slots fed. refl) w
 
   -- one `ask` more, of the session at a place
   pub ask_woven : (s : Standing) (place line session viewer limit : ℕ) (query : Checked) (entries : List Entry) (items : List Item) (lacks : List Bool) (asked : ℕ → List Answer) (compacted : List Answer) (low : ℕ)

@@ -8,7 +8,8 @@ use Rattle.script_rounds.specs.Terms.{Terms}
 use Rattle.unicorn_round.specs.Answers.{Standing, opening_standing, after_entry, after_entries, after_rounds, answers, entry_answers, entries_answers, replies}
 use Rattle.unicorn_round.specs.Checking.{checked_lines, checked_text}
 use Rattle.round_feed.specs.Feeds.{made}
-use Rattle.unicorn_round.specs.Marks.{Mark, Record}
+use Rattle.unicorn_round.specs.LineByLine.{EntriesDone, RoundsDone}
+use Rattle.unicorn_round.specs.Marks.{Mark}
 use Rattle.unicorn_round.specs.Plain.{Lacks, plain_mark, plain_marks, plain_record}
 use Rattle.unicorn_round.specs.Records.{IsMarked, AreMarked, IsRecord}
 
@@ -35,28 +36,17 @@ pub record EntryChecked (terms : Terms) (s : Standing) (entry : Entry) (after : 
 
 -- so were entries, one after the other, and a text is that of their lines
 pub record EntriesChecked (terms : Terms) (s : Standing) (entries : List Entry) (after : CheckState) (text : List ℕ) : Type 0 where
-  pub lacks : Lacks
-  pub one_each : length lacks ≡ length entries
   pub marks : List Mark
-  pub are : marks ≡ plain_marks terms s entries lacks
-  pub marked : AreMarked entries marks
-  pub stands : ChecksFor after (after_entries terms s entries marks)
+  pub done : EntriesDone ChecksFor terms s entries marks after
   pub writes : (end : Standing) → text ≡ checked_text terms.schema (entries_answers terms (replies terms.schema) end s entries marks)
-
--- so were rounds
-pub record RoundsChecked (terms : Terms) (rounds : List (List Entry)) (after : CheckState) (text : List ℕ) : Type 0 where
-  pub is_under : after.terms ≡ terms
-  pub lacks : List Lacks
-  pub one_each : length lacks ≡ length rounds
-  pub told : Record
-  pub is : told ≡ plain_record terms rounds lacks
-  pub is_record : IsRecord terms rounds told
-  pub stands : ChecksFor after (after_rounds terms (opening_standing terms) rounds told)
-  pub writes : text ≡ checked_text terms.schema (answers terms rounds told)
 
 -- the limits and the schema of its script
 abbrev pub check_terms : CheckState → Terms
 check_terms state = state.terms
+
+-- so were rounds
+abbrev pub RoundsChecked : Terms → List (List Entry) → CheckState → List ℕ → Type 0
+RoundsChecked = RoundsDone ChecksFor check_terms checked_text
 
 -- it stands behind rounds, which a text answers
 abbrev pub CheckStands : CheckState → List (List Entry) → List ℕ → Type 0

@@ -12,6 +12,7 @@ pub mod Example
 pub mod Headers
 pub mod Laws
 pub mod Legal
+pub mod LineByLine
 pub mod Marks
 pub mod Modes
 pub mod Outcome

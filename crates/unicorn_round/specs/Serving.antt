@@ -11,7 +11,8 @@ use Rattle.script_rounds.specs.Terms.{Terms}
 use Rattle.unicorn_round.specs.declared.stacks.StackCover.{StackCover}
 use Rattle.unicorn_round.specs.Answers.{Standing, opening_standing, after_entry, after_entries, after_rounds, answers, entry_answers, entries_answers, replies}
 use Rattle.round_feed.specs.Feeds.{Feed, made}
-use Rattle.unicorn_round.specs.Marks.{Mark, Record}
+use Rattle.unicorn_round.specs.LineByLine.{EntriesDone, RoundsDone}
+use Rattle.unicorn_round.specs.Marks.{Mark}
 use Rattle.unicorn_round.specs.Plain.{Lacks, plain_mark, plain_marks, plain_record}
 use Rattle.unicorn_round.specs.Records.{IsMarked, AreMarked, IsRecord}
 use Rattle.unicorn_round.specs.Stacks.{opening_stacks, rows_of}
@@ -68,29 +69,18 @@ pub record Answered (terms : Terms) (s : Standing) (entry : Entry) (after : Serv
 
 -- so were entries, one after the other
 pub record AllAnswered (terms : Terms) (s : Standing) (entries : List Entry) (after : Serving) (drafts : List Answer) : Type 0 where
-  pub lacks : Lacks
-  pub one_each : length lacks ≡ length entries
   pub marks : List Mark
-  pub are : marks ≡ plain_marks terms s entries lacks
-  pub marked : AreMarked entries marks
-  pub stands : StandsFor after (after_entries terms s entries marks)
+  pub done : EntriesDone StandsFor terms s entries marks after
   pub answers : (end : Standing) → IsLater (after_entries terms s entries marks).feed.journal end.feed.journal
       → map (filled end) drafts ≡ entries_answers terms (replies terms.schema) end s entries marks
-
--- rounds were answered line by line, and a text is that of their answers
-pub record RoundsAnswered (terms : Terms) (rounds : List (List Entry)) (after : Serving) (text : List ℕ) : Type 0 where
-  pub is_under : after.terms ≡ terms
-  pub lacks : List Lacks
-  pub one_each : length lacks ≡ length rounds
-  pub told : Record
-  pub is : told ≡ plain_record terms rounds lacks
-  pub is_record : IsRecord terms rounds told
-  pub stands : StandsFor after (after_rounds terms (opening_standing terms) rounds told)
-  pub writes : text ≡ answers_text terms.schema (answers terms rounds told)
 
 -- the limits and the schema of its script
 abbrev pub serving_terms : Serving → Terms
 serving_terms serving = serving.terms
+
+-- rounds were answered line by line, and a text is that of their answers
+abbrev pub RoundsAnswered : Terms → List (List Entry) → Serving → List ℕ → Type 0
+RoundsAnswered = RoundsDone StandsFor serving_terms answers_text
 
 -- it stands behind rounds, which a text answers
 abbrev pub ServingStands : Serving → List (List Entry) → List ℕ → Type 0

@@ -46,10 +46,10 @@ slot_of (Publish line) = slot.Feed line
 slot_of (Ask line session viewer limit query) = slot.Ask (session - 1)
 slot_of (Compact line vertical shard replica) = slot.Compact
 slot_of (Stats line) = slot.Stats line
-slot_of (Refused line code) = slot.Told (answer.Refused line code)
-slot_of (Fault line code) = slot.Told (answer.Fault line code)
-slot_of (QueryFault line code column) = slot.Told (answer.QueryFault line code column)
-slot_of (Memory line) = slot.Told (answer.Memory line)
+slot_of (Refused line code) = slot.Refused line code
+slot_of (Fault line code) = slot.Fault line code
+slot_of (QueryFault line code column) = slot.QueryFault line code column
+slot_of (Memory line) = slot.Memory line
 
 -- ---- the answers in order
 
@@ -73,14 +73,18 @@ others line (first ∷ rest) = if is_of line first then rest else first ∷ rest
 abbrev pub popped : ℕ → (ℕ → List Answer) → ℕ → List Answer
 popped place asked other = if other == place then drop 1 (asked other) else asked other
 
--- Each slot has the next answer of whoever answers its line; `stats` shows the stacks as they stand.
+-- Each slot has the next answer of whoever answers its line, or the answer that is known; `stats` shows the stacks
+-- as they stand.
 abbrev pub merged : (ℕ → Answer) → List Slot → List Answer → (ℕ → List Answer) → List Answer → List Answer
 merged shown [] fed asked compacted = []
 merged shown (slot.Feed line ∷ slots) fed asked compacted = own line fed ++ merged shown slots (others line fed) asked compacted
 merged shown (slot.Ask place ∷ slots) fed asked compacted = take 1 (asked place) ++ merged shown slots fed (popped place asked) compacted
 merged shown (slot.Compact ∷ slots) fed asked compacted = take 1 compacted ++ merged shown slots fed asked (drop 1 compacted)
 merged shown (slot.Stats line ∷ slots) fed asked compacted = shown line ∷ merged shown slots fed asked compacted
-merged shown (slot.Told told ∷ slots) fed asked compacted = told ∷ merged shown slots fed asked compacted
+merged shown (slot.Refused line code ∷ slots) fed asked compacted = answer.Refused line code ∷ merged shown slots fed asked compacted
+merged shown (slot.Fault line code ∷ slots) fed asked compacted = answer.Fault line code ∷ merged shown slots fed asked compacted
+merged shown (slot.QueryFault line code column ∷ slots) fed asked compacted = answer.QueryFault line code column ∷ merged shown slots fed asked compacted
+merged shown (slot.Memory line ∷ slots) fed asked compacted = answer.Memory line ∷ merged shown slots fed asked compacted
 
 -- what `stats` shows at a round's end
 abbrev pub shown_at : Standing → ℕ → Answer

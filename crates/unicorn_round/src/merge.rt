@@ -60,7 +60,10 @@ impl Queues {
             Slot::Ask(place) => self.next_asked(place),
             Slot::Compact => self.compacted.pop_front(),
             Slot::Stats(line) => Some(Answer::Stats(line, made, stacks.rows(made)?)),
-            Slot::Told(answer) => Some(answer),
+            Slot::Refused(line, code) => Some(Answer::Refused(line, code)),
+            Slot::Fault(line, code) => Some(Answer::Fault(line, code)),
+            Slot::QueryFault(line, code, column) => Some(Answer::QueryFault(line, code, column)),
+            Slot::Memory(line) => Some(Answer::Memory(line)),
         })
     }
 

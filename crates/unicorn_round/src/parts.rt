@@ -1,9 +1,10 @@
-ghost use Rattle.std.specs.Prelude.{ℕ, ◌≡◌, ◌++◌, ◌∷◌, [], All, IfOk, List, OnOk, length};
+ghost use Rattle.std.specs.Prelude.{ℕ, ◌≡◌, ◌++◌, ◌∷◌, [], All, IfOk, List, OnOk, length, map, true};
+ghost use Rattle.std.specs.List.{list_all};
 ghost use Rattle.script_rounds.specs.declared.item.Item.{Item};
 ghost use Rattle.unicorn_round.specs.Parted.{AddsLine, IsFor, IsParted};
+ghost use Rattle.unicorn_round.specs.Weaving.{is_feed, slot_of};
 
 use crate::slot::Slot;
-use reply_text::Answer;
 use script_rounds::{Item, ItemList};
 use session_asks::{AskLine, AskList};
 use std::alloc::{AllocError, Global};
@@ -18,16 +19,35 @@ pub(crate) struct Parts {
 }
 
 impl Parts {
-    /// Parts the items of a round among the feeder, so many sessions and the compactor.
+    /// Parts the items of a round among the feeder, so many sessions and the compactor. Where all are the feeder's,
+    /// none is moved.
     pub(crate) fn of(alloc: Global, items: ItemList, sessions: u64) -> Result<Parts, AllocError>
         requires { All (IsFor sessions) items }
         ensures { IfOk result (IsParted sessions items) }
     {
+        if are_feed(items.as_slice()) {
+            return Parts::of_feed(alloc, items, sessions);
+        }
         let mut parts = Parts::new(alloc, sessions)?;
         for item in items.into_vec() {
             parts.add(item)?;
         }
         Ok(parts)
+    }
+
+    // Lines that are all the feeder's.
+    fn of_feed(alloc: Global, items: ItemList, sessions: u64) -> Result<Parts, AllocError>
+        requires { list_all is_feed items ≡ true }
+        ensures { IfOk result (IsParted sessions items) }
+    {
+        let slots = slots_of(alloc, items.as_slice())?;
+        let empty = Parts::new(alloc, sessions)?;
+        Ok(Parts {
+            slots,
+            feed: items,
+            asks: empty.asks,
+            compactions: empty.compactions,
+        })
     }
 
     // No lines.
@@ -51,52 +71,63 @@ impl Parts {
         requires { IsFor (length self.old.asks.items) item }
         ensures { OnOk result (AddsLine (length self.old.asks.items) item self.old self.new) }
     {
+        self.slots.push(slot_of(&item))?;
         match item {
-            Item::Change(line, command) => {
-                self.slots.push(Slot::Feed(line))?;
-                self.feed.push(Item::Change(line, command))
-            }
-            Item::Publish(line) => {
-                self.slots.push(Slot::Feed(line))?;
-                self.feed.push(Item::Publish(line))
-            }
+            Item::Change(..) | Item::Publish(_) => self.feed.push(item),
+            Item::Compact(..) => self.compactions.push(item),
             Item::Ask {
                 line,
                 session,
                 viewer,
                 limit,
                 query,
-            } => {
-                let place = session as usize - 1;
-                self.slots.push(Slot::Ask(place))?;
-                self.asks[place].push(AskLine {
-                    line,
-                    viewer,
-                    limit,
-                    query,
-                })
-            }
-            Item::Compact(line, vertical, shard, replica) => {
-                self.slots.push(Slot::Compact)?;
-                self.compactions
-                    .push(Item::Compact(line, vertical, shard, replica))
-            }
-            Item::Stats(line) => self.add_slot(Slot::Stats(line)),
-            Item::Refused(line, code) => self.add_slot(Slot::Told(Answer::Refused(line, code))),
-            Item::Fault(line, code) => self.add_slot(Slot::Told(Answer::Fault(line, code))),
-            Item::QueryFault(line, code, column) => {
-                self.add_slot(Slot::Told(Answer::QueryFault(line, code, column)))
-            }
-            Item::Memory(line) => self.add_slot(Slot::Told(Answer::Memory(line))),
+            } => self.asks[session as usize - 1].push(AskLine {
+                line,
+                viewer,
+                limit,
+                query,
+            }),
+            _ => Ok(()),
         }
     }
+}
 
-    // A line that nobody works on.
-    fn add_slot(&mut self, slot: Slot) -> Result<(), AllocError>
-        ensures slots { OnOk result (self.new.slots.items ≡ self.old.slots.items ++ slot ∷ []) }
-        ensures kept { (self.new.feed ≡ self.old.feed) × (self.new.asks ≡ self.old.asks) × (self.new.compactions ≡ self.old.compactions) }
-    {
-        self.slots.push(slot)?;
-        Ok(())
+// Whether all lines are the feeder's.
+fn are_feed(items: &[Item]) -> bool
+    ensures { result ≡ list_all is_feed items.now }
+{
+    items.iter().all(is_feed)
+}
+
+fn is_feed(item: &Item) -> bool
+    ensures { result ≡ is_feed item.now }
+{
+    matches!(item, Item::Change(..) | Item::Publish(_))
+}
+
+// Where the answers of lines come from.
+fn slots_of(alloc: Global, items: &[Item]) -> Result<Vec<Slot>, AllocError>
+    ensures { IfOk result (λ slots. slots.items ≡ map slot_of items.now) }
+{
+    let mut slots = Vec::with_capacity(alloc, items.len())?;
+    for item in items {
+        slots.push(slot_of(item))?;
+    }
+    Ok(slots)
+}
+
+// Where the answer of a line comes from.
+fn slot_of(item: &Item) -> Slot
+    ensures { result ≡ slot_of item.now }
+{
+    match item {
+        Item::Change(line, _) | Item::Publish(line) => Slot::Feed(*line),
+        Item::Ask { session, .. } => Slot::Ask((*session as usize).saturating_sub(1)),
+        Item::Compact(..) => Slot::Compact,
+        Item::Stats(line) => Slot::Stats(*line),
+        Item::Refused(line, code) => Slot::Refused(*line, *code),
+        Item::Fault(line, code) => Slot::Fault(*line, *code),
+        Item::QueryFault(line, code, column) => Slot::QueryFault(*line, *code, *column),
+        Item::Memory(line) => Slot::Memory(*line),
     }
 }

@@ -18,6 +18,6 @@ returns c =
       stands = λ entries rounds before of r.
           subst (λ (t : Terms). RoundsChecked t (rounds ++ entries ∷ []) after (before ++ text)) (sym same)
           (round_checked terms rounds entries c.args.self after before text r
-          (c.in_ok-text.ensures.checked entries (after_rounds terms (opening_standing terms) rounds r.told) (subst (AreItemsOf entries) (sym c.as_slice.ensures) of) r.stands)
+          (c.in_ok-text.ensures.checked entries (after_rounds terms (opening_standing terms) rounds r.told) (subst (AreItemsOf entries) (sym c.as_slice.ensures) of) r.there)
           same);
     }

@@ -39,7 +39,7 @@ loop-item-preserved c =
           let a = c.loop-item.invariant.checked split.front s split.are st in
           let now = after_entries terms s split.front a.marks in
           let more = option_to_list c.answer-answer.result in
-          let b = subst (λ (t : Terms). EntryChecked t now split.entry c.answer-answer.new.self more) c.loop-item.invariant.terms (c.answer-answer.ensures.checked split.entry now split.last a.stands) in
+          let b = subst (λ (t : Terms). EntryChecked t now split.entry c.answer-answer.new.self more) c.loop-item.invariant.terms (c.answer-answer.ensures.checked split.entry now split.last a.done.there) in
           subst (EntriesChecked terms s entries c.answer-answer.new.self) (sym (c.in_ok-add.ensures ∙ ap (λ (t : Terms). c.loop-item.text ++ answers_text t.schema more) same))
           (subst (λ es. EntriesChecked terms s es c.answer-answer.new.self (c.loop-item.text ++ answers_text terms.schema more)) (sym split.is)
           (one_more_checked terms s split.front split.entry c.loop-item.self c.answer-answer.new.self c.loop-item.text more a b));

@@ -36,7 +36,7 @@ loop-item-preserved c = record {
       let a = c.loop-item.invariant.answered split.front s split.are st in
       let now = after_entries terms s split.front a.marks in
       let more = option_to_list c.in_ok-answer.answer in
-      let b = subst (λ (t : Terms). Answered t now split.entry c.answer.new.self more) c.loop-item.invariant.terms (c.in_ok-answer.ensures.answered split.entry now split.last a.stands) in
+      let b = subst (λ (t : Terms). Answered t now split.entry c.answer.new.self more) c.loop-item.invariant.terms (c.in_ok-answer.ensures.answered split.entry now split.last a.done.there) in
       subst (AllAnswered terms s entries c.answer.new.self) (sym c.in_ok-add.ensures)
       (subst (λ es. AllAnswered terms s es c.answer.new.self (c.loop-item.answers.items ++ more)) (sym split.is)
       (one_more_answered terms s split.front split.entry c.loop-item.self c.answer.new.self c.loop-item.answers.items more a b));

@@ -27,6 +27,6 @@ returns c =
       stands = λ entries rounds before of r.
           subst (λ (t : Terms). RoundsAnswered t (rounds ++ entries ∷ []) after (before ++ text)) (sym same)
           (round_more terms rounds entries c.args.self mid after drafts before text r
-          (c.in_ok-answers.ensures.answered entries (after_rounds terms (opening_standing terms) rounds r.told) (subst (AreItemsOf entries) (sym c.as_slice.ensures) of) r.stands)
+          (c.in_ok-answers.ensures.answered entries (after_rounds terms (opening_standing terms) rounds r.told) (subst (AreItemsOf entries) (sym c.as_slice.ensures) of) r.there)
           c.in_ok-answers.ensures.terms c.in_ok-tidy.ensures.tidied writes);
     }
