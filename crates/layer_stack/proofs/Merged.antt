@@ -1,5 +1,5 @@
 -- What parts stand for together, by look-ups.
-use Rattle.std.proofs.Common.{◌≡◌, ℕ, ◌+◌, ◌<◌, ◌≤◌, Bool, true, false, cond, ◌||◌, List, [], ◌∷◌, map, filter, length, Option, None, Some, refl, sym, ◌∙◌, ap, subst, arith, All, is_some, ◌⊎◌, inl, inr}
+use Rattle.std.proofs.Common.{◌≡◌, ◌++◌, ℕ, ◌+◌, ◌<◌, ◌≤◌, Bool, true, false, cond, ◌||◌, List, [], ◌∷◌, map, filter, length, Option, None, Some, refl, sym, ◌∙◌, ap, subst, arith, All, is_some, ◌⊎◌, inl, inr}
 use Rattle.std.specs.Prelude.{T}
 use Rattle.std.specs.Option.{unwrap_or}
 use Rattle.std.specs.List.{slice_get}
@@ -214,6 +214,11 @@ lesser-none (Some x) (Some y) e = by (is_before x y) e
     by : (c : Bool) → cond c (Some x) (Some y) ≡ None → (Some x ≡ None) × (Some y ≡ None)
     by true h = cc
     by false h = cc
+
+-- one part more
+pub least_from-push : (least : Option DocKey) (parts : List PartValue) (part : PartValue) → least_from least (parts ++ part ∷ []) ≡ lesser (least_from least parts) (head_of part)
+least_from-push least [] part = refl
+least_from-push least (p ∷ parts) part = least_from-push (lesser least (head_of p)) parts part
 
 pub least_none : (least : Option DocKey) (parts : List PartValue) → least_from least parts ≡ None → (least ≡ None) × All (λ part. part.1 ≡ []) parts
 least_none least [] e = (e, All-nil (λ part. part.1 ≡ []))

@@ -33,14 +33,19 @@ fn decided(parts: &[Part<'_>], key: &DocKey) -> Option<Audience>
     answer
 }
 
-// Passes the postings at the least key.
-fn pass(parts: &mut [Part<'_>], key: &DocKey)
+// Passes the postings at the least key, and gives the least key at which a part stands then.
+fn pass(parts: &mut [Part<'_>], key: &DocKey) -> Option<DocKey>
     requires { All (StandsFrom key.now) parts.old }
-    ensures { parts.new ≡ map (part_where (is_before key.now)) parts.old }
+    ensures passed { parts.new ≡ map (part_where (is_before key.now)) parts.old }
+    ensures least { result ≡ least_from None parts.new }
+    ensures ranked { All (λ part. IsRanked (keys_of part.1)) parts.new }
 {
+    let mut least = None;
     for part in parts.iter_mut() {
         part.pass(key);
+        least = lesser(least, part.head());
     }
+    least
 }
 
 // Passes the postings before a key.
@@ -58,11 +63,23 @@ pub(crate) fn settle(parts: &mut [Part<'_>]) -> Option<Posting>
     ensures same { remaining_of parts.new ≡ remaining_of parts.old }
     ensures stand { IfSome result (λ p. All (StandsFrom p.key) parts.new) }
 {
-    while let Some(key) = least(parts) {
+    let head = least(parts);
+    settle_from(parts, head)
+}
+
+// The same, given the least key at which a part stands.
+fn settle_from(parts: &mut [Part<'_>], mut head: Option<DocKey>) -> Option<Posting>
+    requires least { head ≡ least_from None parts.old }
+    requires ranked { All (λ part. IsRanked (keys_of part.1)) parts.old }
+    ensures front { result ≡ slice_get (remaining_of parts.new) 0 }
+    ensures same { remaining_of parts.new ≡ remaining_of parts.old }
+    ensures stand { IfSome result (λ p. All (StandsFrom p.key) parts.new) }
+{
+    while let Some(key) = head {
         if let Some(audience) = decided(parts, &key) {
             return Some(Posting { key, audience });
         }
-        pass(parts, &key);
+        head = pass(parts, &key);
     }
     None
 }
@@ -74,8 +91,8 @@ pub(crate) fn step_on(parts: &mut [Part<'_>], key: &DocKey) -> Option<Posting>
     ensures left { remaining_of parts.new ≡ filter (λ p. is_before key.now p.key) (remaining_of parts.old) }
     ensures stand { IfSome result (λ p. All (StandsFrom p.key) parts.new) }
 {
-    pass(parts, key);
-    settle(parts)
+    let head = pass(parts, key);
+    settle_from(parts, head)
 }
 
 // What is left from a key on: its first posting.

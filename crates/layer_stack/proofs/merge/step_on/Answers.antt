@@ -5,4 +5,4 @@ use Rattle.layer_stack.proofs.Merged.{remaining-where}
 use Rattle.layer_stack.proofs.merge.step_on.Goals as goal
 
 pub returns-clause-left : goal.returns-clause-left
-returns-clause-left c = c.settle.ensures.same ∙ ap remaining_of c.pass.ensures ∙ remaining-where (is_before c.args.key.now) c.args.parts.now
+returns-clause-left c = c.settle_from.ensures.same ∙ ap remaining_of c.pass-head.ensures.passed ∙ remaining-where (is_before c.args.key.now) c.args.parts.now
