@@ -15,7 +15,7 @@ use Rattle.uni_base.specs.EdgeOrder.{edge_cmp}
 use Rattle.uni_schema.specs.declared.schema.TypeDef.{TypeDef}
 use Rattle.uni_schema.specs.declared.schema.VerticalDef.{VerticalDef}
 use Rattle.uni_schema.specs.Schema.{Declarations, type_at}
-use Rattle.uni_table.specs.Changes.{rank_at, AreEdgeChanges}
+use Rattle.uni_table.specs.Changes.{rank_at, AreEdgeChanges, IsEdgeChange}
 use Rattle.uni_table.specs.Contents.{Contents, edge_at, key_stands, source_stands}
 use Rattle.uni_table.specs.GraphKeys.{exact_edges}
 use Rattle.uni_table.specs.TableState.{TableState, IsKept}
@@ -44,7 +44,7 @@ module _ (schema : Declarations) where
   changes_declared limits old new old_kept new_kept cs are =
       All-weaker (Contains cs) (λ (c : EdgeChange). c.edge.type_no < length schema.types) (λ c among. one c ((are.exact c).0 among)) cs (All-contains_itself cs)
     where
-      one : (c : EdgeChange) → (c.before ≡ edge_at old c.edge) × (c.after ≡ edge_at new c.edge) × ((c.before ≡ c.after → ⊥) ⊎ (IsSome c.after × (rank_at old c.edge.target ≡ rank_at new c.edge.target → ⊥))) → c.edge.type_no < length schema.types
+      one : (c : EdgeChange) → IsEdgeChange old new c → c.edge.type_no < length schema.types
       one c known = by (edge_at old c.edge) (edge_at new c.edge) refl refl
         where
           neither : c.before ≡ None → c.after ≡ None → (c.before ≡ c.after → ⊥) ⊎ (IsSome c.after × (rank_at old c.edge.target ≡ rank_at new c.edge.target → ⊥)) → c.edge.type_no < length schema.types

@@ -7,13 +7,13 @@ use Rattle.std.specs.Ordering.{nat_cmp, eq_by_cmp, is_eq}
 use Rattle.uni_base.specs.declared.entity.Rank.{Rank}
 use Rattle.uni_base.specs.declared.limits.Limits.{Limits}
 use Rattle.uni_schema.specs.Schema.{Declarations}
-use Rattle.uni_table.specs.Changes.{rank_at, AreEntityChanges}
+use Rattle.uni_table.specs.Changes.{AreEntityChanges}
 use Rattle.uni_table.specs.Contents.{Contents, entity_at}
 use Rattle.uni_table.specs.TableState.{IsKept}
 use Rattle.uni_table.specs.declared.change.EntityChange.{EntityChange}
 use Rattle.layer_base.specs.Layers.{layer_over as table_over}
 use Rattle.layer_base.proofs.Tables.{get-layer_over}
-use Rattle.shard_index.specs.ChangedRows.{same_rank, rank_of, rank_within, ranked_row, shard_entities, ranks_back, TakesBack}
+use Rattle.shard_index.specs.ChangedRows.{same_rank, rank_within, ranked_row, shard_entities}
 use Rattle.shard_index.specs.Differences.{layer_from}
 use Rattle.shard_index.specs.Entities.{rank_over}
 use Rattle.shard_index.specs.Laws.{rank_in_shard}
@@ -90,13 +90,6 @@ module _ (old new : Contents) (cs : List EntityChange) (are : AreEntityChanges o
       (λ c among. let known = (are.exact c).0 among in (ap (rank_within schema vertical shard c.id) known.0, ap (rank_within schema vertical shard c.id) known.1))
       (λ id differ. differing id (λ e. differ (ap (rank_within schema vertical shard id) e))) q
       ∙ sym (ranks_read schema limits new vertical shard new_kept q))
-
-  -- and ranks, taken back
-  pub taken_back : TakesBack (ranks_back cs) new old
-  taken_back id =
-      rank_turned (rank_at new) (rank_at old) (λ c. rank_of c.id c.after) (λ c. rank_of c.id c.before) cs
-      (λ c among. let known = (are.exact c).0 among in (ap (rank_of c.id) known.1, ap (rank_of c.id) known.0))
-      (λ n differ. differing n (λ e. differ (ap (rank_of n) (sym e)))) id
 
   -- what a shard's layer deletes and puts differs in the shard
   module _ (schema : Declarations) (vertical shard : ℕ) (id : ℕ) where

@@ -59,12 +59,22 @@ audience_itself (Circle n k) = λ i. number_itself n i && is_eq (tied_itself key
 
 -- ---- of a table
 
+-- what became of an edge from one table to another
+abbrev pub change_at : Contents → Contents → EdgeRef → EdgeChange
+change_at old new edge = record {
+  edge = edge;
+  before = edge_at old edge;
+  after = edge_at new edge;
+  rank_before = rank_at old edge.target;
+  rank_after = rank_at new edge.target;
+}
+
 module _ (schema : Declarations) (limits : Limits) (old new : Contents) (vertical shard : ℕ) (old_kept : IsKept schema limits old) (new_kept : IsKept schema limits new) (cs : List EdgeChange) (are : AreEdgeChanges old new cs) where
   abbrev pub was : EdgeChange → Option (Place × Audience)
-  was c = if_posted schema vertical shard c.edge (posting_before old c)
+  was c = if_posted schema vertical shard c.edge (posting_before c)
 
   abbrev pub now : EdgeChange → Option (Place × Audience)
-  now c = if_posted schema vertical shard c.edge (posting_now new c)
+  now c = if_posted schema vertical shard c.edge (posting_now c)
 
   module _ (q : Place) where
     abbrev pub before : Option Audience
@@ -88,9 +98,9 @@ module _ (schema : Declarations) (limits : Limits) (old new : Contents) (vertica
     says c among is =
         let known = (are.exact c).0 among in
         record {
-          was_is = same_at (was c) ∙ ap (λ o. at_place q (if_posted schema vertical shard c.edge (posting_for c.edge (rank_at old c.edge.target) o))) known.0
+          was_is = same_at (was c) ∙ (λ i. at_place q (if_posted schema vertical shard c.edge (posting_for c.edge (known.3 i) (known.0 i))))
               ∙ ap (λ (e : EdgeRef). at_place q (if_posted schema vertical shard e (posting_for e (rank_at old e.target) (edge_at old e)))) (sym is);
-          now_is = same_at (now c) ∙ ap (λ o. at_place q (if_posted schema vertical shard c.edge (posting_for c.edge (rank_at new c.edge.target) o))) known.1
+          now_is = same_at (now c) ∙ (λ i. at_place q (if_posted schema vertical shard c.edge (posting_for c.edge (known.4 i) (known.1 i))))
               ∙ ap (λ (e : EdgeRef). at_place q (if_posted schema vertical shard e (posting_for e (rank_at new e.target) (edge_at new e)))) (sym is);
         }
 
@@ -107,12 +117,12 @@ module _ (schema : Declarations) (limits : Limits) (old new : Contents) (vertica
         by (Some p) is f = next p is (eq_by_cmp place_cmp q p.0) refl f
 
     either_names : (c : EdgeChange) (a b : Bool) → is_some (at (was c)) ≡ a → is_some (at (now c)) ≡ b → (a || b) ≡ true → named q ≡ c.edge
-    either_names c true b e f t = names c.edge (rank_at old c.edge.target) c.before e
-    either_names c false b e f t = names c.edge (rank_at new c.edge.target) c.after (f ∙ t)
+    either_names c true b e f t = names c.edge c.rank_before c.before e
+    either_names c false b e f t = names c.edge c.rank_after c.after (f ∙ t)
 
     -- where the place differs, its edge differs or its target's rank does
-    differs : (before ≡ after → ⊥) → IsEdgeChange old new (record { edge = named q; before = edge_at old (named q); after = edge_at new (named q) })
-    differs differ = (refl, refl, by (decided nat_cmp_total id_apart same_rank exact_rank rank_itself (rank_at old q.key.id) (rank_at new q.key.id)))
+    differs : (before ≡ after → ⊥) → IsEdgeChange old new (change_at old new (named q))
+    differs differ = (refl, refl, by (decided nat_cmp_total id_apart same_rank exact_rank rank_itself (rank_at old q.key.id) (rank_at new q.key.id)), refl, refl)
       where
         said : Option Rank → Option EdgeRow → Option Audience
         said rank row = at_place q (if_posted schema vertical shard (named q) (posting_for (named q) rank row))
@@ -137,14 +147,15 @@ module _ (schema : Declarations) (limits : Limits) (old new : Contents) (vertica
     changes = record {
       sound = λ c among t. says c among (either_names c (is_some (at (was c))) (is_some (at (now c))) refl refl t);
       complete = λ differ.
-          let among : Contains cs (record { edge = named q; before = edge_at old (named q); after = edge_at new (named q) }) = (are.exact (record { edge = named q; before = edge_at old (named q); after = edge_at new (named q) })).1 (differs differ) in
-          (record { edge = named q; before = edge_at old (named q); after = edge_at new (named q) }, among, says (record { edge = named q; before = edge_at old (named q); after = edge_at new (named q) }) among refl);
+          let change = change_at old new (named q) in
+          let among : Contains cs (change_at old new (named q)) = (are.exact (change_at old new (named q))).1 (differs differ) in
+          (change, among, says change among refl);
     }
 
-  pub postings_turned : table_over (shard_rows schema old vertical shard).postings (shard_postings schema vertical shard old new cs) ≡ (shard_rows schema new vertical shard).postings
+  pub postings_turned : table_over (shard_rows schema old vertical shard).postings (shard_postings schema vertical shard cs) ≡ (shard_rows schema new vertical shard).postings
   postings_turned =
-      finite.same_map place_total place_apart (table_over (shard_rows schema old vertical shard).postings (shard_postings schema vertical shard old new cs)) (shard_rows schema new vertical shard).postings
-      (λ q. get-layer_over place_total place_apart (shard_rows schema old vertical shard).postings (shard_postings schema vertical shard old new cs) q
-      ∙ ap (λ b. either (finite.get (shard_postings schema vertical shard old new cs).puts q) (if finite.contains_key (shard_postings schema vertical shard old new cs).deletes q then None else b)) (posted_read schema limits old vertical shard old_kept q)
+      finite.same_map place_total place_apart (table_over (shard_rows schema old vertical shard).postings (shard_postings schema vertical shard cs)) (shard_rows schema new vertical shard).postings
+      (λ q. get-layer_over place_total place_apart (shard_rows schema old vertical shard).postings (shard_postings schema vertical shard cs) q
+      ∙ ap (λ b. either (finite.get (shard_postings schema vertical shard cs).puts q) (if finite.contains_key (shard_postings schema vertical shard cs).deletes q then None else b)) (posted_read schema limits old vertical shard old_kept q)
       ∙ turned place_total place_apart same_audience exact_audience audience_itself q was now cs (before q) (after q) (changes q)
       ∙ sym (posted_read schema limits new vertical shard new_kept q))

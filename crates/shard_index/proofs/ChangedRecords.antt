@@ -31,7 +31,7 @@ use Rattle.forward_data.proofs.Newest.{under, get-over}
 use Rattle.forward_data.proofs.Order.{record_total, record_apart}
 use Rattle.shard_index.specs.ChangedRows.{same_audiences, audience_of, record_from, record_within, changed_record, is_record, is_among, items_of, AreShardRecords}
 use Rattle.shard_index.specs.Shards.{record_of_edge, items_from, record_row, shard_rows}
-use Rattle.shard_index.proofs.ChangedPostings.{exact_audience, audience_itself}
+use Rattle.shard_index.proofs.ChangedPostings.{exact_audience, audience_itself, change_at}
 use Rattle.shard_index.proofs.FullRows.{records_full}
 use Rattle.shard_index.proofs.LoggedMaps.{Agree, logged_is}
 use Rattle.shard_index.proofs.ReadRanks.{same_number}
@@ -206,7 +206,7 @@ module _ (schema : Declarations) (vertical shard : ℕ) where
     unchanged q t none edge starts = by (same_audiences (audience_at old edge) (audience_at new edge)) refl
       where
         change : EdgeChange
-        change = record { edge = edge; before = edge_at old edge; after = edge_at new edge }
+        change = change_at old new edge
 
         differ : same_audiences (audience_at old edge) (audience_at new edge) ≡ false → edge_at old edge ≡ edge_at new edge → ⊥
         differ f e = clash (audience_at new edge) (ap (λ a. same_audiences a (audience_at new edge)) (ap audience_of (sym e)) ∙ f)
@@ -218,13 +218,12 @@ module _ (schema : Declarations) (vertical shard : ℕ) where
         by : (b : Bool) → same_audiences (audience_at old edge) (audience_at new edge) ≡ b → audience_at old edge ≡ audience_at new edge
         by true f = same_either (audience_at old edge) (audience_at new edge) f
         by false f =
-            let among : Contains cs (record { edge = edge; before = edge_at old edge; after = edge_at new edge }) =
-            (are.exact (record { edge = edge; before = edge_at old edge; after = edge_at new edge })).1 (refl, refl, inl (differ f)) in
-            let changed : changed_record schema vertical shard (record { edge = edge; before = edge_at old edge; after = edge_at new edge }) ≡ Some q = ap (λ b. if b then None else record_within schema vertical shard edge) f ∙ within edge q t starts in
+            let among : Contains cs (change_at old new edge) = (are.exact (change_at old new edge)).1 (refl, refl, inl (differ f), refl, refl) in
+            let changed : changed_record schema vertical shard (change_at old new edge) ≡ Some q = ap (λ b. if b then None else record_within schema vertical shard edge) f ∙ within edge q t starts in
             absurd (never among changed)
           where
-            never : Contains cs (record { edge = edge; before = edge_at old edge; after = edge_at new edge }) → changed_record schema vertical shard (record { edge = edge; before = edge_at old edge; after = edge_at new edge }) ≡ Some q → ⊥
-            never among changed = let clash : true ≡ false = sym (listed q cs (record { edge = edge; before = edge_at old edge; after = edge_at new edge }) among changed) ∙ none in cc
+            never : Contains cs (change_at old new edge) → changed_record schema vertical shard (change_at old new edge) ≡ Some q → ⊥
+            never among changed = let clash : true ≡ false = sym (listed q cs (change_at old new edge) among changed) ∙ none in cc
 
     records_same : (q : RecordKey) → is_among schema vertical shard cs q ≡ false → finite.get (shard_rows schema old vertical shard).records q ≡ finite.get (shard_rows schema new vertical shard).records q
     records_same q none = by (is_own q) refl

@@ -20,7 +20,7 @@ use Rattle.shard_index.proofs.FewRecords.{few_records}
 -- the parts of a layer of a shard, by the changes
 pub record FromChanges (schema : Declarations) (old new : Contents) (vertical shard : ℕ) (es : List EntityChange) (cs : List EdgeChange) (layer : ShardChanges) : Type 0 where
   pub entities : layer.entities ≡ shard_entities schema vertical shard es
-  pub postings : layer.postings ≡ shard_postings schema vertical shard old new cs
+  pub postings : layer.postings ≡ shard_postings schema vertical shard cs
   pub records : AreShardRecords schema vertical shard new cs layer.records
 
 sum_of : (a b c d e x y z : ℕ) → a ≤ x → b ≤ x → c ≤ y → d ≤ y → e ≤ z → a + b + (c + d) + e ≤ 2 * (x + y + z)

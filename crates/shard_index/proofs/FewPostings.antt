@@ -85,27 +85,27 @@ module _ (schema : Declarations) (limits : Limits) (old new : Contents) (vertica
       let same : j ≡ k = ap (λ (o : Option (Place × Audience)). option_map_or (λ x. x.0) o j) both in
       subst (λ (x : Place). eq_by_cmp place_cmp j x ≡ true) same (ap is_eq (tied_itself place_total j))
 
-  deleted : (q : Place) → finite.contains_key (shard_postings schema vertical shard old new cs).deletes q ≡ true
+  deleted : (q : Place) → finite.contains_key (shard_postings schema vertical shard cs).deletes q ≡ true
       → (not (same_rows same_audience (at_place q (edge_posting schema old vertical shard (named q))) (at_place q (edge_posting schema new vertical shard (named q)))) ≡ true) × (is_some (at_place q (edge_posting schema old vertical shard (named q))) ≡ true)
   deleted q = deleted_differs place_total place_apart same_audience exact_audience audience_itself q (was schema limits old new vertical shard old_kept new_kept cs are) (now schema limits old new vertical shard old_kept new_kept cs are) cs
       (before schema limits old new vertical shard old_kept new_kept cs are q) (after schema limits old new vertical shard old_kept new_kept cs are q) (changes schema limits old new vertical shard old_kept new_kept cs are q)
 
-  put : (q : Place) → finite.contains_key (shard_postings schema vertical shard old new cs).puts q ≡ true
+  put : (q : Place) → finite.contains_key (shard_postings schema vertical shard cs).puts q ≡ true
       → (not (same_rows same_audience (at_place q (edge_posting schema old vertical shard (named q))) (at_place q (edge_posting schema new vertical shard (named q)))) ≡ true) × (is_some (at_place q (edge_posting schema new vertical shard (named q))) ≡ true)
   put q = added_differs place_total place_apart same_audience exact_audience audience_itself q (was schema limits old new vertical shard old_kept new_kept cs are) (now schema limits old new vertical shard old_kept new_kept cs are) cs
       (before schema limits old new vertical shard old_kept new_kept cs are q) (after schema limits old new vertical shard old_kept new_kept cs are q) (changes schema limits old new vertical shard old_kept new_kept cs are q)
 
-  pub few_deleted : finite.len (shard_postings schema vertical shard old new cs).deletes ≤ length (moved_edges schema old new vertical shard)
+  pub few_deleted : finite.len (shard_postings schema vertical shard cs).deletes ≤ length (moved_edges schema old new vertical shard)
   few_deleted =
-      few_keys place_total edge_total exact_edges (shard_postings schema vertical shard old new cs).deletes named (moved_edges schema old new vertical shard)
+      few_keys place_total edge_total exact_edges (shard_postings schema vertical shard cs).deletes named (moved_edges schema old new vertical shard)
       (λ q t. let known = deleted q t in let posting = stands q (edge_posting schema old vertical shard (named q)) known.1 in
       of_first edge_total exact_edges differs (keys_of old.edges) (keys_of new.edges) (named q) (differ q (edge_posting schema old vertical shard (named q)) (edge_posting schema new vertical shard (named q)) known.0)
       (there old (named q) (q, posting.0) posting.1))
       (λ j k s t e. one old j k (deleted j s).1 (deleted k t).1 e)
 
-  pub few_put : finite.len (shard_postings schema vertical shard old new cs).puts ≤ length (moved_edges schema old new vertical shard)
+  pub few_put : finite.len (shard_postings schema vertical shard cs).puts ≤ length (moved_edges schema old new vertical shard)
   few_put =
-      few_keys place_total edge_total exact_edges (shard_postings schema vertical shard old new cs).puts named (moved_edges schema old new vertical shard)
+      few_keys place_total edge_total exact_edges (shard_postings schema vertical shard cs).puts named (moved_edges schema old new vertical shard)
       (λ q t. let known = put q t in let posting = stands q (edge_posting schema new vertical shard (named q)) known.1 in
       of_second edge_total exact_edges differs (keys_of old.edges) (keys_of new.edges) (named q) (differ q (edge_posting schema old vertical shard (named q)) (edge_posting schema new vertical shard (named q)) known.0)
       (there new (named q) (q, posting.0) posting.1))

@@ -120,11 +120,11 @@ module _ (schema : Declarations) (vertical shard : ℕ) where
       by (Some d) (Word text) f = refl
       by (Some d) (Id id) f = ap (λ b. if b then Some (record { type_no = c.edge.type_no; id = id }) else None) (next d id (is_index d.store) (starts_in vertical d.origin) f)
 
-  none_posted : (old new : Contents) (c : EdgeChange) → own_edge c ≡ false → (if_posted schema vertical shard c.edge (posting_before old c) ≡ None) × (if_posted schema vertical shard c.edge (posting_now new c) ≡ None)
-  none_posted old new c e = let none = not_posted c e in (ap (λ b. if b then posting_before old c else None) none, ap (λ b. if b then posting_now new c else None) none)
+  none_posted : (c : EdgeChange) → own_edge c ≡ false → (if_posted schema vertical shard c.edge (posting_before c) ≡ None) × (if_posted schema vertical shard c.edge (posting_now c) ≡ None)
+  none_posted c e = let none = not_posted c e in (ap (λ b. if b then posting_before c else None) none, ap (λ b. if b then posting_now c else None) none)
 
-  pub postings_left : (old new : Contents) (cs : List EdgeChange) → shard_postings schema vertical shard old new (filter own_edge cs) ≡ shard_postings schema vertical shard old new cs
-  postings_left old new cs = layer_left place_cmp same_audience (λ c. if_posted schema vertical shard c.edge (posting_before old c)) (λ c. if_posted schema vertical shard c.edge (posting_now new c)) own_edge (none_posted old new) cs
+  pub postings_left : (cs : List EdgeChange) → shard_postings schema vertical shard (filter own_edge cs) ≡ shard_postings schema vertical shard cs
+  postings_left cs = layer_left place_cmp same_audience (λ c. if_posted schema vertical shard c.edge (posting_before c)) (λ c. if_posted schema vertical shard c.edge (posting_now c)) own_edge none_posted cs
 
   none_changed : (q : RecordKey) (c : EdgeChange) → own_edge c ≡ false → is_record q (changed_record schema vertical shard c) ≡ false
   none_changed q c e = ap (is_record q) (by (same_audiences (audience_of c.before) (audience_of c.after)))

@@ -17,7 +17,6 @@ use Rattle.uni_table.specs.declared.change.EdgeChange.{EdgeChange}
 use Rattle.uni_table.specs.declared.change.EntityChange.{EntityChange}
 use Rattle.uni_table.specs.declared.command.EdgeRow.{EdgeRow}
 use Rattle.uni_table.specs.declared.command.EntityRow.{EntityRow}
-use Rattle.uni_table.specs.Changes.{rank_at}
 use Rattle.uni_table.specs.Contents.{Contents, starts_at}
 use Rattle.uni_table.specs.Lists.{held_of, keeps_target, keeps_source}
 use Rattle.uni_table.specs.Ranked.{is_of_shard}
@@ -29,7 +28,7 @@ use Rattle.forward_data.specs.declared.record.ForwardItem.{ForwardItem}
 use Rattle.forward_data.specs.declared.record.RecordKey.{RecordKey}
 use Rattle.forward_data.specs.Records.{Records, record_key, record_cmp}
 use Rattle.shard_index.specs.Differences.{noting, dropped, added, layer_from}
-use Rattle.shard_index.specs.Entities.{EntityChanges, rank_over}
+use Rattle.shard_index.specs.Entities.{EntityChanges}
 use Rattle.shard_index.specs.Shards.{item_of}
 
 -- ---- sameness
@@ -50,11 +49,7 @@ same_audience (Circle m j) (Circle n k) = m == n && eq_by_cmp key_cmp j k
 
 -- ---- entities
 
--- the rank of an entity with a row
-abbrev pub rank_of : ℕ → Option EntityRow → Option Rank
-rank_of id row = option_map (λ (r : EntityRow). r.rank) row
-
--- the same, where the row is of a shard of a vertical
+-- the rank of an entity with a row, where the row is of a shard of a vertical
 abbrev pub rank_within : Declarations → ℕ → ℕ → ℕ → Option EntityRow → Option Rank
 rank_within schema vertical shard id row = option_and_then (λ (r : EntityRow). if is_of_shard schema vertical shard (id, r) then Some r.rank else None) row
 
@@ -70,14 +65,6 @@ moving changes id was now = noting changes (dropped nat_cmp same_rank (ranked_ro
 abbrev pub shard_entities : Declarations → ℕ → ℕ → List EntityChange → EntityChanges
 shard_entities schema vertical shard = layer_from nat_cmp same_rank (λ c. ranked_row c.id (rank_within schema vertical shard c.id c.before)) (λ c. ranked_row c.id (rank_within schema vertical shard c.id c.after))
 
--- the layer that takes ranks back to what they were before some changes
-abbrev pub ranks_back : List EntityChange → EntityChanges
-ranks_back = layer_from nat_cmp same_rank (λ c. ranked_row c.id (rank_of c.id c.after)) (λ c. ranked_row c.id (rank_of c.id c.before))
-
--- a layer takes the ranks of one table back to those of another
-abbrev pub TakesBack : EntityChanges → Contents → Contents → Type 0
-TakesBack layer new old = (id : ℕ) → rank_over layer id (rank_at new id) ≡ rank_at old id
-
 -- ---- postings
 
 -- changes with what became of a posting
@@ -92,29 +79,24 @@ is_posted schema vertical shard edge = option_map_or (λ (type_def : TypeDef). i
 abbrev pub posting_for : EdgeRef → Option Rank → Option EdgeRow → Option (Place × Audience)
 posting_for edge rank row = option_and_then (λ (r : EdgeRow). option_map (λ k. (place_of (term_of edge.type_no edge.key) (record { rank = k; id = edge.target }), r.audience)) rank) row
 
--- the posting of an edge that changed, in a table before and in one after
-abbrev pub posting_before : Contents → EdgeChange → Option (Place × Audience)
-posting_before old change = posting_for change.edge (rank_at old change.edge.target) change.before
+-- the posting of an edge that changed, before and now
+abbrev pub posting_before : EdgeChange → Option (Place × Audience)
+posting_before change = posting_for change.edge change.rank_before change.before
 
-abbrev pub posting_now : Contents → EdgeChange → Option (Place × Audience)
-posting_now new change = posting_for change.edge (rank_at new change.edge.target) change.after
+abbrev pub posting_now : EdgeChange → Option (Place × Audience)
+posting_now change = posting_for change.edge change.rank_after change.after
 
 -- a posting, where an edge is an index edge into a shard of a vertical
 abbrev pub if_posted : Declarations → ℕ → ℕ → EdgeRef → Option (Place × Audience) → Option (Place × Audience)
 if_posted schema vertical shard edge posting = if is_posted schema vertical shard edge then posting else None
 
--- the layer of the postings of a shard among some changes, from one table to another
-abbrev pub shard_postings : Declarations → ℕ → ℕ → Contents → Contents → List EdgeChange → PostingChanges
-shard_postings schema vertical shard old new =
-    layer_from place_cmp same_audience (λ c. if_posted schema vertical shard c.edge (posting_before old c)) (λ c. if_posted schema vertical shard c.edge (posting_now new c))
+-- the layer of the postings of a shard among some changes, and changes with what became of one more edge
+abbrev pub shard_postings : Declarations → ℕ → ℕ → List EdgeChange → PostingChanges
+shard_postings schema vertical shard =
+    layer_from place_cmp same_audience (λ c. if_posted schema vertical shard c.edge (posting_before c)) (λ c. if_posted schema vertical shard c.edge (posting_now c))
 
--- that layer for a table, from what it held as its last batch ended to what it holds, and changes with what
--- became of one more edge
-abbrev pub batch_postings : TableState → ℕ → ℕ → List EdgeChange → PostingChanges
-batch_postings table vertical shard = shard_postings table.schema vertical shard table.published table.contents
-
-abbrev pub with_change : TableState → PostingChanges → EdgeChange → PostingChanges
-with_change table changes change = turning changes (posting_before table.published change) (posting_now table.contents change)
+abbrev pub with_change : PostingChanges → EdgeChange → PostingChanges
+with_change changes change = turning changes (posting_before change) (posting_now change)
 
 -- ---- records
 

@@ -3,10 +3,9 @@
 ghost use Rattle.std.specs.Prelude.{◌<◌, length, IfOk, OnOk};
 ghost use Rattle.uni_table.specs.Changes.{AreEdgeChanges, AreEntityChanges};
 ghost use Rattle.shard_index.specs.Batches.{all_shards, shards_at, shard_place, TakesOver, TakeOver, TakesMore};
-ghost use Rattle.shard_index.specs.ChangedRows.{TakesBack};
 ghost use Rattle.shard_index.specs.Split.{OwnEdges, OwnEntities, told};
 
-use crate::{EntityLayer, ShardLayer};
+use crate::ShardLayer;
 use std::alloc::{AllocError, Global};
 use std::sync::Arc;
 use uni_table::{EdgeChange, EntityChange, Table};
@@ -18,20 +17,19 @@ mod split;
 #[cfg(test)]
 mod tests;
 
-use entities::{ranks_back, shard_entities};
+use entities::shard_entities;
 use postings::shard_postings;
 use records::shard_records;
 use split::{split_edges, split_entities};
 
 /// The layers of a batch, one for each shard of each vertical, in their order: each takes the rows of its
 /// shard from what they were as the last batch ended to what they are now. It costs one pass over the
-/// changes for each vertical, a look-up for each edge, and the records of which an edge changed.
+/// changes for each vertical, and the records of which an edge changed.
 pub fn batch_layers(alloc: Global, table: &Table) -> Result<Vec<ShardLayer>, AllocError>
     ensures { IfOk result (λ layers. TakeOver table.now (all_shards table.now.schema) layers.items) }
 {
     let entities = table.changed_entities()?;
     let edges = table.changed_edges()?;
-    let back = ranks_back(alloc, entities.as_slice())?;
     let mut layers = Vec::new(alloc);
     for vertical in 0..table.schema().verticals() {
         add_vertical(
@@ -39,7 +37,6 @@ pub fn batch_layers(alloc: Global, table: &Table) -> Result<Vec<ShardLayer>, All
             table,
             entities.as_slice(),
             edges.as_slice(),
-            &back,
             vertical,
             &mut layers,
         )?;
@@ -53,14 +50,12 @@ fn add_vertical(
     table: &Table,
     entities: &[EntityChange],
     edges: &[EdgeChange],
-    back: &EntityLayer,
     vertical: u16,
     layers: &mut Vec<ShardLayer>,
 ) -> Result<(), AllocError>
     requires vertical { vertical < length table.now.schema.verticals }
     requires entities { AreEntityChanges table.now.published table.now.contents entities.now }
     requires edges { AreEdgeChanges table.now.published table.now.contents edges.now }
-    requires back { TakesBack back.now table.now.contents table.now.published }
     ensures { OnOk result (TakesMore table.now (shards_at table.now.schema vertical) layers.old.items layers.new.items) }
 {
     let entities = split_entities(alloc, table.schema(), vertical, entities)?;
@@ -69,7 +64,7 @@ fn add_vertical(
         let number = shard as usize;
         let own_entities = entities[number].as_slice();
         let own_edges = edges[number].as_slice();
-        let layer = shard_layer(alloc, table, own_entities, own_edges, back, vertical, shard)?;
+        let layer = shard_layer(alloc, table, own_entities, own_edges, vertical, shard)?;
         layers.push(layer)?;
     }
     Ok(())
@@ -81,18 +76,16 @@ fn shard_layer(
     table: &Table,
     entities: &[EntityChange],
     edges: &[&EdgeChange],
-    back: &EntityLayer,
     vertical: u16,
     shard: u32,
 ) -> Result<ShardLayer, AllocError>
     requires vertical { vertical < length table.now.schema.verticals }
     requires entities { OwnEntities table.now.schema table.now.published table.now.contents vertical shard entities.now }
     requires edges { OwnEdges table.now.schema table.now.published table.now.contents vertical shard (told edges.now) }
-    requires back { TakesBack back.now table.now.contents table.now.published }
     ensures { IfOk result (TakesOver table.now.schema table.now.published table.now.contents (shard_place vertical shard)) }
 {
     let entities = shard_entities(alloc, table.schema(), vertical, shard, entities)?;
-    let postings = shard_postings(alloc, table, back, vertical, shard, edges)?;
+    let postings = shard_postings(alloc, table.schema(), vertical, shard, edges)?;
     let forward = shard_records(alloc, table, vertical, shard, edges)?;
     Ok(ShardLayer::join(
         Arc::new(alloc, entities)?,

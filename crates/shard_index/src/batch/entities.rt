@@ -1,6 +1,6 @@
 //! What a batch changed of the entities of a shard.
 ghost use Rattle.std.specs.Prelude.{◌≡◌, ◌<◌, length, IfOk, OnOk};
-ghost use Rattle.shard_index.specs.ChangedRows.{rank_of, rank_within, moving, shard_entities, ranks_back};
+ghost use Rattle.shard_index.specs.ChangedRows.{rank_within, moving, shard_entities};
 
 use crate::{EntityDelta, EntityLayer};
 use std::alloc::{AllocError, Global};
@@ -26,29 +26,6 @@ pub(super) fn shard_entities(
         note(&mut delta, change.id, was, now)?;
     }
     EntityLayer::build(delta)
-}
-
-/// The layer that takes the ranks of entities back to what they were before they changed.
-pub(super) fn ranks_back(alloc: Global, changes: &[EntityChange]) -> Result<EntityLayer, AllocError>
-    ensures { IfOk result (λ layer. layer ≡ ranks_back changes.now) }
-{
-    let mut delta = EntityDelta::new(alloc);
-    for change in changes {
-        note(
-            &mut delta,
-            change.id,
-            rank(change.id, change.after),
-            rank(change.id, change.before),
-        )?;
-    }
-    EntityLayer::build(delta)
-}
-
-// The rank of an entity with a row.
-fn rank(id: EntityId, row: Option<EntityRow>) -> Option<Rank>
-    ensures { result ≡ rank_of id row }
-{
-    Some(row?.rank)
 }
 
 // The rank of an entity with a row. None where the row is of another shard.

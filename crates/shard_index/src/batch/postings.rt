@@ -2,39 +2,35 @@
 ghost use Rattle.std.specs.Prelude.{◌≡◌, ◌<◌, Some, length, IfOk, OnOk};
 ghost use Rattle.std.specs.List.{All};
 ghost use Rattle.std.specs.Ordering.{eq_by_cmp};
-ghost use Rattle.uni_table.specs.Changes.{rank_at};
 ghost use Rattle.layer_stack.specs.Places.{place_cmp};
 ghost use Rattle.layer_stack.specs.Postings.{deleting, putting};
-ghost use Rattle.shard_index.specs.ChangedRows.{same_audience, is_posted, posting_for, turning, with_change, batch_postings, TakesBack};
+ghost use Rattle.shard_index.specs.ChangedRows.{same_audience, is_posted, posting_for, turning, with_change, shard_postings};
 ghost use Rattle.shard_index.specs.Split.{told};
 
-use crate::EntityLayer;
 use layer_stack::{Delta, Layer, Place, TermKey};
 use posting_lists::Posting;
 use std::alloc::{AllocError, Global};
-use uni_base::{Audience, DocKey, EdgeRef, EntityId, Rank};
+use uni_base::{Audience, DocKey, EdgeRef, Rank};
 use uni_schema::{Schema, Store};
-use uni_table::{EdgeChange, EdgeRow, Table};
+use uni_table::{EdgeChange, EdgeRow};
 
-/// The layer of the postings of a shard that changed. `back` takes the ranks of entities back to what
-/// they were as the last batch ended.
+/// The layer of the postings of a shard that changed. Each change says where its posting was and is, so
+/// nothing is looked up.
 pub(super) fn shard_postings(
     alloc: Global,
-    table: &Table,
-    back: &EntityLayer,
+    schema: &Schema,
     vertical: u16,
     shard: u32,
     changes: &[&EdgeChange],
 ) -> Result<Layer, AllocError>
-    requires vertical { vertical < length table.now.schema.verticals }
-    requires declared { All (λ c. c.edge.type_no < length table.now.schema.types) (told changes.now) }
-    requires back { TakesBack back.now table.now.contents table.now.published }
-    ensures { IfOk result (λ layer. layer ≡ batch_postings table.now vertical shard (told changes.now)) }
+    requires vertical { vertical < length schema.now.verticals }
+    requires declared { All (λ c. c.edge.type_no < length schema.now.types) (told changes.now) }
+    ensures { IfOk result (λ layer. layer ≡ shard_postings schema.now vertical shard (told changes.now)) }
 {
     let mut delta = Delta::new(alloc);
     for change in changes {
-        if is_posted(table.schema(), vertical, shard, &change.edge) {
-            note_change(&mut delta, table, back, change)?;
+        if is_posted(schema, vertical, shard, &change.edge) {
+            note_change(&mut delta, change)?;
         }
     }
     Layer::build(alloc, delta)
@@ -53,27 +49,12 @@ fn is_posted(schema: &Schema, vertical: u16, shard: u32, edge: &EdgeRef) -> bool
 }
 
 // Notes what became of the posting of an edge.
-fn note_change(
-    delta: &mut Delta,
-    table: &Table,
-    back: &EntityLayer,
-    change: &EdgeChange,
-) -> Result<(), AllocError>
-    requires { TakesBack back.now table.now.contents table.now.published }
-    ensures { OnOk result (delta.new ≡ with_change table.now delta.old change.now) }
+fn note_change(delta: &mut Delta, change: &EdgeChange) -> Result<(), AllocError>
+    ensures { OnOk result (delta.new ≡ with_change delta.old change.now) }
 {
-    let target = change.edge.target;
-    let rank = rank_now(table, target);
-    let was = posting(&change.edge, back.over(rank, target), change.before);
-    let now = posting(&change.edge, rank, change.after);
+    let was = posting(&change.edge, change.rank_before, change.before);
+    let now = posting(&change.edge, change.rank_after, change.after);
     note(delta, &was, &now)
-}
-
-// The rank of an entity. None where it is none.
-fn rank_now(table: &Table, id: EntityId) -> Option<Rank>
-    ensures { result ≡ rank_at table.now.contents id }
-{
-    Some(table.entity(id)?.rank)
 }
 
 // The posting of an edge with a row, at the rank of its target.

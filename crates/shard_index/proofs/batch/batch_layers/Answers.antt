@@ -1,15 +1,6 @@
-use Rattle.std.proofs.Common.{rules, ◌≡◌, ◌<◌, length, sym, subst}
-use Rattle.shard_index.specs.ChangedRows.{ranks_back, TakesBack}
-use Rattle.shard_index.specs.Entities.{EntityChanges}
+use Rattle.std.proofs.Common.{rules, ◌<◌, length}
 use Rattle.shard_index.proofs.BatchShards.{vertical_added}
-use Rattle.shard_index.proofs.ChangedEntities.{taken_back}
 use Rattle.shard_index.proofs.batch.batch_layers.Goals as goal
-
-pub add_vertical-requires-clause-back : goal.add_vertical-requires-clause-back
-add_vertical-requires-clause-back c =
-    let table = c.args.table.now in
-    let is : c.in_ok-back.back ≡ ranks_back c.in_ok-entities.entities = search rules in
-    subst (λ (b : EntityChanges). TakesBack b table.contents table.published) (sym is) (taken_back table.published table.contents c.in_ok-entities.entities (c.in_ok-entities.ensures {u = tt}))
 
 pub loop-vertical-preserved : goal.loop-vertical-preserved
 loop-vertical-preserved c =

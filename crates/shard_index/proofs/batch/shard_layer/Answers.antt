@@ -19,9 +19,11 @@ use Rattle.shard_index.proofs.batch.shard_layer.Goals as goal
 pub shard_postings-requires-clause-declared : goal.shard_postings-requires-clause-declared
 shard_postings-requires-clause-declared c =
     let table = c.args.table.now in let own = c.requires.edges in
-    subst (All (λ (x : EdgeChange). x.edge.type_no < length table.schema.types)) (sym own.is)
+    let same : c.deref-2.result.now ≡ table.schema = search rules in
+    subst (λ (d : Declarations). All (λ (x : EdgeChange). x.edge.type_no < length d.types) (told c.args.edges.now)) (sym same)
+    (subst (All (λ (x : EdgeChange). x.edge.type_no < length table.schema.types)) (sym own.is)
     (All-filter (own_edge table.schema c.args.vertical c.args.shard) (λ (x : EdgeChange). x.edge.type_no < length table.schema.types) own.all
-    (changes_declared table.schema table.limits table.published table.contents c.schema.ensures.published_kept c.schema.ensures.kept own.all own.are))
+    (changes_declared table.schema table.limits table.published table.contents c.schema.ensures.published_kept c.schema.ensures.kept own.all own.are)))
 
 pub shard_records-requires-clause-declared : goal.shard_records-requires-clause-declared
 shard_records-requires-clause-declared c =
@@ -42,7 +44,9 @@ returns c =
     let own = c.requires.entities in let own_edges = c.requires.edges in
     let removed = entities ∙ c.in_ok-entities.ensures {u = tt} ∙ ap (λ (d : Declarations). shard_entities d v s c.args.entities.now) same
     ∙ ap (shard_entities schema v s) own.is ∙ entities_left schema v s own.all in
-    let moved = postings ∙ c.in_ok-postings.ensures {u = tt} ∙ ap (shard_postings schema v s old new) own_edges.is ∙ postings_left schema v s old new own_edges.all in
+    let same_again : c.deref-2.result.now ≡ schema = search rules in
+    let moved = postings ∙ c.in_ok-postings.ensures {u = tt} ∙ ap (λ (d : Declarations). shard_postings d v s (told c.args.edges.now)) same_again
+    ∙ ap (shard_postings schema v s) own_edges.is ∙ postings_left schema v s own_edges.all in
     let noted : AreShardRecords schema v s new own_edges.all c.join.result.records =
     records_left schema v s new own_edges.all c.join.result.records
     (subst (λ (es : List EdgeChange). AreShardRecords schema v s new es c.join.result.records) own_edges.is (subst (λ (r : Records). AreShardRecords schema v s new (told c.args.edges.now) r) (sym records) (c.in_ok-forward.ensures {u = tt}))) in

@@ -1,5 +1,4 @@
 use Rattle.std.proofs.Common.{rules, ◌≡◌, ◌+◌, ◌<◌, length, subst, true, false, if◌then◌else◌, None, take, ◌∙◌, sym}
-use Rattle.uni_schema.specs.Schema.{Declarations}
 use Rattle.uni_table.specs.declared.change.EdgeChange.{EdgeChange}
 use Rattle.shard_index.specs.ChangedRows.{same_audience, is_posted, if_posted, posting_before, posting_now, turning, shard_postings}
 use Rattle.shard_index.specs.Split.{told}
@@ -11,21 +10,18 @@ use Rattle.shard_index.proofs.batch.postings.shard_postings.Goals.{then-is_poste
 pub is_posted-requires-clause-declared : goal.is_posted-requires-clause-declared
 is_posted-requires-clause-declared c =
     let i = c.loop-change.change-index in let b = c.change-item.result in
-    let same : c.deref.result.now ≡ c.args.table.now.schema = search rules in
-    subst (λ (d : Declarations). b.now.edge.type_no < length d.types) (sym same)
-    (subst (λ (x : EdgeChange). x.edge.type_no < length c.args.table.now.schema.types) (sym (told_at c.args.changes.now i b c.loop-change-test.true c.change-item.is))
-    (c.requires.declared i b.now (told_below c.args.changes.now i c.loop-change-test.true)))
+    subst (λ (x : EdgeChange). x.edge.type_no < length c.args.schema.now.types) (sym (told_at c.args.changes.now i b c.loop-change-test.true c.change-item.is))
+    (c.requires.declared i b.now (told_below c.args.changes.now i c.loop-change-test.true))
 
 pub loop-change-preserved : goal.loop-change-preserved
 loop-change-preserved c =
-    let schema = c.args.table.now.schema in let v = c.args.vertical in let s = c.args.shard in
-    let old = c.args.table.now.published in let new = c.args.table.now.contents in
+    let schema = c.args.schema.now in let v = c.args.vertical in let s = c.args.shard in
     let change = c.change-item.result.now in let changes = told c.args.changes.now in let i = c.loop-change.change-index in
-    let was = posting_before old change in let now = posting_now new change in
+    let was = posting_before change in let now = posting_now change in
     let posted : c.is_posted.result ≡ is_posted schema v s change.edge = search rules in
-    let more : turning (shard_postings schema v s old new (take i changes)) (if_posted schema v s change.edge was) (if_posted schema v s change.edge now)
-    ≡ shard_postings schema v s old new (take (i + 1) changes) =
-    noted_more same_audience (λ (x : EdgeChange). if_posted schema v s x.edge (posting_before old x)) (λ (x : EdgeChange). if_posted schema v s x.edge (posting_now new x)) changes i change
+    let more : turning (shard_postings schema v s (take i changes)) (if_posted schema v s change.edge was) (if_posted schema v s change.edge now)
+    ≡ shard_postings schema v s (take (i + 1) changes) =
+    noted_more same_audience (λ (x : EdgeChange). if_posted schema v s x.edge (posting_before x)) (λ (x : EdgeChange). if_posted schema v s x.edge (posting_now x)) changes i change
     (told_below c.args.changes.now i c.loop-change-test.true) (told_at c.args.changes.now i c.change-item.result c.loop-change-test.true c.change-item.is) in
     elim c.if-is_posted.branch [
       | then-is_posted+in_ok-note_change w ↦

@@ -4,4 +4,4 @@ use Rattle.shard_index.specs.Split.{told}
 use Rattle.shard_index.proofs.batch.postings.shard_postings.Given as goal
 
 abbrev pub invariant-loop-change : goal.invariant-loop-change
-invariant-loop-change l = l.delta ≡ shard_postings l.table.schema l.vertical l.shard l.table.published l.table.contents (take l.change-index (told l.changes))
+invariant-loop-change l = l.delta ≡ shard_postings l.schema l.vertical l.shard (take l.change-index (told l.changes))
