@@ -1,5 +1,5 @@
 //! What differs between what the rows stand for and what they stood for at the last publish.
-ghost use Rattle.std.specs.Prelude.{◌≡◌, ◌++◌, ◌∷◌, [], length, map, nat_eq, slice_get, IfOk, OnOk};
+ghost use Rattle.std.specs.Prelude.{◌≡◌, ◌++◌, ◌∷◌, [], map, nat_eq, IfOk, OnOk};
 ghost use Rattle.std.specs.List.{IsDistinct, filter_map};
 ghost use Rattle.std.specs.Option.{option_map, option_to_list};
 ghost use Rattle.uni_table.specs.Changes.{AreEdgeChanges, HasEntityChanges};
