@@ -1,5 +1,5 @@
 -- The keys of the postings of a prefix term, by its words.
-use Rattle.std.proofs.Common.{◌≡◌, ℕ, ◌<◌, Bool, true, false, cond, ◌||◌, List, [], ◌∷◌, length, get_or, slice_get, map, filter, Some, is_some, refl, sym, ◌∙◌, ap, arith}
+use Rattle.std.proofs.Common.{◌≡◌, ℕ, ◌<◌, Bool, true, false, cond, ◌||◌, List, [], ◌∷◌, length, get_or, slice_get, map, filter, Option, None, Some, is_some, refl, sym, ◌∙◌, ap, arith}
 use Rattle.std.specs.List.{list_any}
 use Rattle.std.specs.FinMap as finite
 use Rattle.std.specs.FinMap.Entries.{find}
@@ -83,6 +83,15 @@ pub audience_held : (c : PrefixPostings) (k : DocKey) (i : ℕ) → AreHeld c �
 audience_held c k i held current fits =
     let first = first_has k (united c.lists) current in
     sym (held_at c k i held first.0 fits) ∙ sym (first.1 (get_or c.lists i []))
+
+-- and none where it does not
+pub audience_none : (c : PrefixPostings) (k : DocKey) (i : ℕ) → AreHeld c → slice_get (united c.lists) 0 ≡ Some k → i < length c.words → has_first (get_or c.lists i []) (united c.lists) ≡ false
+    → audience_of c.number c.table (get_or c.words i []) k ≡ None
+audience_none c k i held current fits other = over (audience_of c.number c.table (get_or c.words i []) k) (audience_held c k i held current fits ∙ other)
+  where
+    over : (audience : Option Audience) → is_some audience ≡ false → audience ≡ None
+    over None e = refl
+    over (Some audience) e = cc
 
 -- the keys of the postings of each word
 pub map-keys_of : (number : ℕ) (table : PostingTable) (words : List (List ℕ)) → map keys_of (map (word_postings number table) words) ≡ map (λ word. keys_of (word_postings number table word)) words

@@ -1,9 +1,10 @@
 ghost use Rattle.std.specs.Prelude.{◌≡◌, ◌<◌, [], drop, is_some, length, map, slice_get, slice_index_or, Some, IfOk};
 ghost use Rattle.set_cursors.specs.Passed.{HasMoved};
+ghost use Rattle.uni_base.specs.declared.entity.DocKey.{DocKey as Keys};
 ghost use Rattle.uni_base.specs.Cursors.{keys_from};
 ghost use Rattle.uni_base.specs.KeySets.{has_first, united};
 ghost use Rattle.layer_base.specs.Layers.{stack_table};
-ghost use Rattle.prefix_terms.specs.PrefixCursors.{all_postings, audience_at, word_postings};
+ghost use Rattle.prefix_terms.specs.PrefixCursors.{all_postings, audience_at, audience_of, word_postings};
 ghost use Rattle.prefix_terms.specs.PrefixWords.{prefix_words};
 
 use crate::words::{word_term, words_with};
@@ -109,6 +110,8 @@ impl<'a> PrefixCursor<'a> {
     pub fn audience(&self, i: usize) -> Option<Audience>
         requires { i < length self.now.words }
         ensures audience { result ≡ audience_at self.now i }
+        ensures posting { (key : Keys) → slice_get (united self.now.lists) 0 ≡ Some key
+            → result ≡ audience_of self.now.number self.now.table (slice_index_or self.now.words i []) key }
         ensures held { let lists = self.now.lists in
             is_some result ≡ has_first (slice_index_or lists i []) (united lists) }
     {
