@@ -16,6 +16,7 @@ mod MeantTerms
 mod OperandMarks
 mod Places
 mod PostingLists
+mod PrefixTrees
 mod Quotas
 pub mod RankedShards
 mod ReachedLists

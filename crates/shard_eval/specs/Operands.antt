@@ -7,10 +7,11 @@ use Rattle.uni_base.specs.KeySets.{united}
 use Rattle.shard_eval.specs.declared.operand.Side.{Side}
 use Rattle.shard_eval.specs.declared.operand.Side.TheVariants.{First, Others}
 use Rattle.shard_eval.specs.declared.operand.Operand.{Operand}
-use Rattle.shard_eval.specs.declared.operand.Operand.TheVariants.{Term, Hits}
+use Rattle.shard_eval.specs.declared.operand.Operand.TheVariants.{Term, Prefix, Hits}
 
 abbrev pub keys_in : Operand → List DocKey
 keys_in (Term postings) = keys_of postings
+keys_in (Prefix postings) = united postings.lists
 keys_in (Hits keys) = keys
 
 -- the same of a side of a difference

@@ -10,7 +10,7 @@ ghost use Rattle.shard_eval.specs.Sources.{found_by, found_lists, source_marks};
 use crate::joins::{joined_hits, listed_hits, prefix_hits};
 use crate::leaf::Leaf;
 use crate::list::list_hits;
-use crate::source::Source;
+use crate::source::{Source, prefix_source};
 use crate::terms::term_hits;
 use crate::{Resolved, ResolvedOperand};
 use layer_stack::Stack;
@@ -69,7 +69,8 @@ fn eval_list(
     list_hits(alloc, stack, kind, sources, limit)
 }
 
-// The operands of a list: terms as they are, and all hits of any other node.
+// The operands of a list: terms and prefix terms of few words as they are, and all hits of any other
+// node.
 #[cycle(eval)]
 fn sources(
     alloc: Global,
@@ -96,6 +97,7 @@ fn source(alloc: Global, stack: &Stack, node: &Resolved) -> Result<Source, Alloc
 {
     match node {
         Resolved::Term { type_no, key } => Ok(Source::Term(Leaf::of(*type_no, *key))),
+        Resolved::Prefix { type_no, from } => prefix_source(alloc, stack, *type_no, from),
         _ => Ok(Source::Hits(eval(alloc, stack, node, None)?)),
     }
 }

@@ -9,6 +9,7 @@ pub mod laws;
 mod leaf;
 mod list;
 mod operand;
+mod prefix;
 mod reached;
 mod resolved;
 mod shard;

@@ -5,6 +5,7 @@ ghost use Rattle.uni_base.specs.Cursors.{IsRanked, is_before, keys_from};
 
 use layer_stack::StackCursor;
 use lineage_tree::RawHit;
+use prefix_terms::PrefixCursor;
 use set_cursors::OrCursor;
 use std::marker::Model;
 use uni_base::{DocCursor, DocKey};
@@ -71,10 +72,11 @@ fn comes_before(hit: &RawHit, key: &DocKey) -> bool
     hit.key < *key
 }
 
-/// An operand of a list: the postings of a term, or hits.
+/// An operand of a list: the postings of a term or of a prefix term, or hits.
 #[derive(Drop)]
 pub(crate) enum Operand<'a> {
     Term(StackCursor<'a>),
+    Prefix(PrefixCursor<'a>),
     Hits(HitCursor<'a>),
 }
 
@@ -86,6 +88,7 @@ impl<'a> DocCursor for Operand<'a> {
     fn peek(&self) -> Option<DocKey> {
         match self {
             Operand::Term(cursor) => cursor.peek(),
+            Operand::Prefix(cursor) => cursor.peek(),
             Operand::Hits(cursor) => cursor.peek(),
         }
     }
@@ -93,6 +96,7 @@ impl<'a> DocCursor for Operand<'a> {
     fn step(&mut self) {
         match self {
             Operand::Term(cursor) => cursor.step(),
+            Operand::Prefix(cursor) => cursor.step(),
             Operand::Hits(cursor) => cursor.step(),
         }
     }
@@ -100,6 +104,7 @@ impl<'a> DocCursor for Operand<'a> {
     fn seek(&mut self, from: DocKey) {
         match self {
             Operand::Term(cursor) => cursor.seek(from),
+            Operand::Prefix(cursor) => cursor.seek(from),
             Operand::Hits(cursor) => cursor.seek(from),
         }
     }

@@ -3,24 +3,35 @@ ghost use Rattle.std.specs.Prelude.{◌≡◌, All, IfOk, map};
 ghost use Rattle.layer_base.specs.Layers.{stack_table};
 ghost use Rattle.shard_eval.specs.Operands.{keys_in, marks_in, operand_keys};
 ghost use Rattle.shard_eval.specs.Found.{found_keys};
+ghost use Rattle.shard_eval.specs.Grouped.{found_any};
+ghost use Rattle.shard_eval.specs.Resolution.{found_prefix};
 ghost use Rattle.shard_eval.specs.Sources.{found_by, found_lists, source_marks, AreRanked};
 ghost use Rattle.shard_eval.specs.Witnesses.{found_in};
 ghost use Rattle.uni_base.specs.Cursors.{IsRanked};
 
+use crate::joins::prefix_hits;
 use crate::kept::Marked;
 use crate::leaf::Leaf;
 use crate::operand::{HitCursor, Operand};
+use crate::prefix::PrefixWitness;
 use crate::witness::{Postings, Witness};
 use layer_stack::Stack;
 use lineage_tree::HitRows;
+use prefix_terms::prefix_cursor;
 use query_tree::Mark;
 use std::alloc::{AllocError, Global};
 use std::collections::VecDeque;
+use uni_base::Word;
 
-/// An operand of a list: a term, or the hits of another node.
+// The most words of a prefix term that is read by a cursor. Each move of such a cursor looks at all of
+// them, so with more it is dearer than to sort once what they lead to.
+const FEW_WORDS: usize = 64;
+
+/// An operand of a list: a term, a prefix term of few words, or the hits of another node.
 #[derive(Drop)]
 pub(crate) enum Source {
     Term(Leaf),
+    Prefix { type_no: u16, from: Word },
     Hits(HitRows),
 }
 
@@ -32,6 +43,9 @@ impl Source {
     {
         match self {
             Source::Term(leaf) => Ok(Operand::Term(stack.cursor(alloc, &leaf.term())?)),
+            Source::Prefix { type_no, from } => {
+                Ok(Operand::Prefix(prefix_cursor(alloc, stack, *type_no, from)?))
+            }
             Source::Hits(hits) => Ok(Operand::Hits(HitCursor::over(hits.as_slice()))),
         }
     }
@@ -45,9 +59,30 @@ impl Source {
                 let cursor = stack.cursor(alloc, &leaf.term())?;
                 Ok(Witness::Term(Postings { leaf, cursor }))
             }
+            Source::Prefix { type_no, from } => {
+                let cursor = prefix_cursor(alloc, stack, type_no, &from)?;
+                Ok(Witness::Prefix(PrefixWitness { type_no, cursor }))
+            }
             Source::Hits(hits) => Ok(Witness::Hits(VecDeque::from(hits.into_vec()))),
         }
     }
+}
+
+/// A prefix term as an operand: as it is where it has few words, else by its hits.
+pub(crate) fn prefix_source(
+    alloc: Global,
+    stack: &Stack,
+    type_no: u16,
+    from: &Word,
+) -> Result<Source, AllocError>
+    ensures { IfOk result (λ source. found_by (stack_table stack.now.0) source ≡ found_any (found_prefix (stack_table stack.now.0) type_no from.now)) }
+{
+    let words = prefix_cursor(alloc, stack, type_no, from)?.words();
+    if words > FEW_WORDS {
+        return Ok(Source::Hits(prefix_hits(alloc, stack, type_no, from, None)?));
+    }
+    let from = *from;
+    Ok(Source::Prefix { type_no, from })
 }
 
 /// Cursors over the keys of operands, with their marks.

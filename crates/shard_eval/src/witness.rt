@@ -7,6 +7,7 @@ ghost use Rattle.shard_eval.specs.Witnesses.{found_in, found_postings};
 ghost use Rattle.uni_base.specs.Cursors.{IsRanked};
 
 use crate::leaf::Leaf;
+use crate::prefix::PrefixWitness;
 use layer_stack::StackCursor;
 use lineage_tree::{Lineage, RawHit};
 use std::alloc::{AllocError, Global};
@@ -35,10 +36,11 @@ impl<'a> Postings<'a> {
     }
 }
 
-/// What an operand finds and is still to come: the postings of a term, or hits.
+/// What an operand finds and is still to come: the postings of a term or of a prefix term, or hits.
 #[derive(Drop)]
 pub(crate) enum Witness<'a> {
     Term(Postings<'a>),
+    Prefix(PrefixWitness<'a>),
     Hits(VecDeque<RawHit>),
 }
 
@@ -55,6 +57,7 @@ impl<'a> Witness<'a> {
     {
         match self {
             Witness::Term(postings) => postings.tree_at(alloc, key),
+            Witness::Prefix(postings) => postings.tree_at(alloc, key),
             Witness::Hits(hits) => Ok(hit_at(hits, key)),
         }
     }

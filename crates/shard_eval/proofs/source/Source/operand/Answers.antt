@@ -6,8 +6,11 @@ use Rattle.posting_lists.specs.Postings.{keys_of}
 use Rattle.uni_base.specs.Cursors.{IsRanked}
 use Rattle.shard_eval.specs.Found.{found_keys, hit_keys}
 use Rattle.shard_eval.specs.Sources.{found_by}
+use Rattle.uni_base.specs.KeySets.{united}
+use Rattle.prefix_terms.specs.PrefixCursors.{PrefixPostings}
 use Rattle.shard_eval.proofs.HitLists.{keys_all}
 use Rattle.shard_eval.proofs.PostingLists.{keys_of_term}
+use Rattle.shard_eval.proofs.PrefixTrees.{prefix_keys}
 use Rattle.shard_eval.proofs.source.Source.operand.Goals as goal
 
 pub over-requires : goal.over-requires
@@ -21,6 +24,12 @@ returns-in_ok-cursor-in-Term c =
     let table = stack_table c.args.stack.now.0 in
     ap keys_of ((c.in_ok-cursor-in-Term.ensures {u = tt}) ∙ ap (λ term. postings_of term table) c.term.ensures)
     ∙ sym (keys_of_term leaf (postings_of (term_of leaf.type_no leaf.key) table)) ∙ ap (λ s. found_keys (found_by table s)) (sym c.in-Term.is)
+
+pub returns-in_ok-prefix_cursor-in-Prefix : goal.returns-in_ok-prefix_cursor-in-Prefix
+returns-in_ok-prefix_cursor-in-Prefix c =
+    let table = stack_table c.args.stack.now.0 in
+    ap (λ (p : PrefixPostings). united p.lists) (c.in_ok-prefix_cursor-in-Prefix.ensures {u = tt})
+    ∙ sym (prefix_keys table c.in-Prefix.type_no c.in-Prefix.from) ∙ ap (λ s. found_keys (found_by table s)) (sym c.in-Prefix.is)
 
 pub returns-in-Hits : goal.returns-in-Hits
 returns-in-Hits c =
