@@ -1,4 +1,4 @@
-//! Queries over a shard of ten postings.
+//! Queries over a shard of ten postings, in one layer and in three.
 ghost use Rattle.std.specs.Prelude.{◌≡◌, All, IfOk, IfSome, map};
 ghost use Rattle.shard_eval.specs.Kept.{IsShare};
 ghost use Rattle.shard_eval.specs.Resolution.{nodes_of, operand_of, resolution, AreReady, IsReady};
@@ -20,6 +20,12 @@ use uni_base::{Audience, DocKey, Fields, Key, Rank, Word, cut_at, read_between, 
 const ROWS: &[u8] =
     b"0 1 90 2,0 1 90 3,0 1 70 5,0 2 70 5,0 2 50 1,1 rome 90 2,1 rome 70 5,1 rome 60 6,1 rome 10 4,1 roma 90 3";
 
+// The same in layers, the oldest first, which bars part. A row that begins with a minus deletes.
+const LAYERS: &[u8] =
+    b"0 1 90 2,0 1 70 5,1 rome 90 2,1 rome 60 6,1 roma 90 3,1 romeo 70 5,1 rome 95 5\
+|0 1 90 3,0 2 70 5,1 rome 70 5,-1 romeo 70 5,-1 rome 95 5,1 romano 10 4\
+|0 2 50 1,1 rome 10 4,-1 romano 10 4";
+
 fn number(text: &[u8]) -> Option<u16> {
     Some(read_between(text, 0, 65_535)? as u16)
 }
@@ -38,31 +44,44 @@ fn doc_key(rank: &[u8], id: &[u8]) -> Option<DocKey> {
     })
 }
 
-// Puts the posting of a row.
+// Puts the posting of a row, or deletes it.
 fn put(delta: &mut Delta, row: &[u8]) -> Option<()> {
-    let mut fields = Fields::of(row);
+    let mut fields = Fields::of(row.strip_prefix(b"-").unwrap_or(row));
     let term = TermKey {
         type_no: number(fields.next()?)?,
         key: key(fields.next()?)?,
     };
     let key = doc_key(fields.next()?, fields.next()?)?;
+    if row.starts_with(b"-") {
+        return delta.delete(term, key).ok();
+    }
     let audience = Audience::Public;
     delta.put(term, Posting { key, audience }).ok()
 }
 
-fn postings(alloc: Global) -> Result<Layer, Fail> {
+fn postings(alloc: Global, rows: &[u8]) -> Result<Layer, Fail> {
     let mut delta = Delta::new(alloc);
-    for row in ROWS.split(|byte| *byte == b',') {
+    for row in rows.split(|byte| *byte == b',') {
         put(&mut delta, row).ok_or("no row")?;
     }
     Ok(Layer::build(alloc, delta)?)
 }
 
-fn index(alloc: Global) -> Result<ShardIndex, Fail> {
+fn layer(alloc: Global, rows: &[u8]) -> Result<ShardLayer, Fail> {
     let entities = Arc::new(alloc, EntityLayer::build(EntityDelta::new(alloc))?)?;
-    let postings = Arc::new(alloc, postings(alloc)?)?;
+    let postings = Arc::new(alloc, postings(alloc, rows)?)?;
     let forward = Arc::new(alloc, ForwardLayer::build(ForwardDelta::new(alloc))?)?;
-    Ok(ShardIndex::of(alloc, ShardLayer::join(entities, postings, forward))?)
+    Ok(ShardLayer::join(entities, postings, forward))
+}
+
+// The index of layers, the oldest first, with a bar between any two.
+fn index(alloc: Global, layers: &[u8]) -> Result<ShardIndex, Fail> {
+    let mut index = ShardIndex::of(alloc, ShardLayer::empty(alloc)?)?;
+    for rows in layers.split(|byte| *byte == b'|') {
+        index = index.roomy(1)?;
+        index.push_layer_reserved(layer(alloc, rows)?);
+    }
+    Ok(index)
 }
 
 // Whether hits are of some entities in order, which commas part.
@@ -140,10 +159,11 @@ fn listed(alloc: Global, kind: ListKind) -> Result<Resolved, Fail>
 }
 
 fn finds(rt: &impl Abort, alloc: Global, kind: ListKind, ids: &[u8]) -> Result<(), Fail> {
-    let index = index(alloc)?;
-    let query = listed(alloc, kind)?;
-    let hits = eval_shard(alloc, &index, &query, 9)?;
-    assert!(rt; are_of(&hits, ids));
+    for layers in [ROWS, LAYERS] {
+        let query = listed(alloc, kind)?;
+        let hits = eval_shard(alloc, &index(alloc, layers)?, &query, 9)?;
+        assert!(rt; are_of(&hits, ids));
+    }
     Ok(())
 }
 
@@ -175,7 +195,7 @@ fn friends_of_friends(alloc: Global) -> Result<Resolved, Fail>
 
 #[test]
 fn a_join(rt: HostRuntime) -> Result<(), Fail> {
-    let index = index(rt.alloc())?;
+    let index = index(rt.alloc(), LAYERS)?;
     let query = friends_of_friends(rt.alloc())?;
     let hits = eval_shard(rt.alloc(), &index, &query, 9)?;
     assert!(rt; are_of(&hits, b"2,3,5,1"));
