@@ -32,7 +32,8 @@ use Rattle.layer_base.specs.Lookups.{either}
 use Rattle.layer_stack.specs.Places.{term_of}
 use Rattle.layer_stack.specs.Postings.{place_of}
 use Rattle.layer_stack.specs.Stacks.{entry_of, part_table}
-use Rattle.layer_stack.proofs.Terms.{parts_stand, one_part, part_pushed}
+use Rattle.layer_stack.proofs.Merged.{get-part}
+use Rattle.layer_stack.proofs.Terms.{parts_stand, one_part}
 use Rattle.shard_index.specs.Laws.{edge_to, leads_to, posting_to}
 use Rattle.shard_index.specs.Rows.{term_postings}
 use Rattle.shard_index.specs.Shards.{shard_rows}
@@ -153,7 +154,7 @@ module _ (schema : Declarations) (limits : Limits) (table : Contents) (vertical 
     -- the list, read as one layer, answers as the shard's postings do
     alike : finite.get (part_table (([], listed) ∷ [])) k ≡ finite.get (shard_rows schema table vertical shard).postings (place_of (term_of number key) k)
     alike =
-        part_pushed [] ([], listed) k ∙ ap (either (find doc_cmp k (map entry_of listed))) (finite.get-empty doc_cmp k) ∙ none_else (find doc_cmp k (map entry_of listed))
+        get-part (part_table []) ([], listed) k ∙ ap (either (find doc_cmp k (map entry_of listed))) (finite.get-empty doc_cmp k) ∙ none_else (find doc_cmp k (map entry_of listed))
         ∙ found doc_cmp k said (map entry_of listed) (agree (ranked schema table vertical shard) (ranked_there schema limits table vertical shard kept)) missing
         ∙ sym (postings_read schema limits table vertical shard kept number key leads k)
 
