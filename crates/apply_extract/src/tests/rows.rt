@@ -54,13 +54,21 @@ fn follow(
     }
 }
 
+/// The small table.
+pub(super) fn small(rt: &impl Abort, alloc: Global) -> Result<Table, Fail> {
+    let mut table = nothing(alloc, HEADER)?;
+    for line in ROWS.split(|byte| *byte == b'|') {
+        assert!(rt; is_put(&mut table, line));
+    }
+    Ok(table)
+}
+
 fn answers(
     rt: &(impl Abort + Threads + Wait + Sync),
     alloc: Global,
     steps: &[u8],
 ) -> Result<(), Fail> {
-    let mut table = nothing(alloc, HEADER)?;
-    follow(rt, alloc, &mut table, ROWS);
+    let mut table = small(rt, alloc)?;
     follow(rt, alloc, &mut table, steps);
     Ok(())
 }

@@ -1,0 +1,121 @@
+//! Large questions, and questions over a large table.
+ghost use Rattle.std.specs.Prelude.{◌≡◌};
+ghost use Rattle.apply_extract.specs.Conditions.{IsStanding};
+
+use super::asked::{Question, is_answered, is_put, nothing, read_question, version_of};
+use super::rows::{HEADER, small};
+use shard_index::Version;
+use std::alloc::{AllocError, Global};
+use std::process::Abort;
+use std::sync::Wait;
+use std::test::Fail;
+use std::thread::Threads;
+use uni_base::EntityId;
+use uni_table::Table;
+
+// How many friends user 1 of the large table has.
+const FRIENDS: u64 = 4_000;
+
+// What opens one of the four lists of the widest query.
+fn opening(number: u64) -> &'static [u8] {
+    match number {
+        0 => b"(or (weak-and",
+        63 => b") (strong-or",
+        126 => b") (or",
+        189 => b") (and",
+        _ => b"",
+    }
+}
+
+// A term of the widest query, with the marks that its list may have.
+fn term(number: u64) -> &'static [u8] {
+    match (number / 63, number % 4) {
+        (0, 0) => b" (term friend:1 :optional-hits 9)",
+        (1, 0) => b" (term friend:1 :optional-weight 1/2)",
+        (_, 1) => b" lives:r*",
+        _ => b" lives:rome",
+    }
+}
+
+// A query of 256 nodes, which is the greatest count: four lists in a list, and 251 terms.
+fn widest(alloc: Global) -> Result<Vec<u8>, AllocError> {
+    let mut text = Vec::new(alloc);
+    for number in 0..251u64 {
+        text.extend_from_slice(opening(number))?;
+        text.extend_from_slice(term(number))?;
+    }
+    text.extend_from_slice(b"))")?;
+    Ok(text)
+}
+
+#[test]
+fn the_greatest_count_of_nodes(rt: HostRuntime) -> Result<(), Fail> {
+    let table = small(&rt, rt.alloc())?;
+    let version = version_of(rt.alloc(), &table).ok_or("no version")?;
+    let text = widest(rt.alloc())?;
+    let question = Question {
+        viewer: EntityId::new(9).ok_or("no id")?,
+        limit: 10,
+        text: text.as_slice(),
+    };
+    let answered = is_answered(&rt, rt.alloc(), &[2], &table, &version, &question);
+    assert!(rt; answered == Some(true));
+    Ok(())
+}
+
+// A user whom user 1 has for a friend, and who has one.
+fn is_befriended(alloc: Global, table: &mut Table, id: u64) -> Result<bool, AllocError> {
+    let other = id / 2 + 1;
+    let entity = format!(in alloc; "entity user {id} {other}")?;
+    let to = format!(in alloc; "edge friend 1 {id} public")?;
+    let from = format!(in alloc; "edge friend {id} {other} public")?;
+    let lives = format!(in alloc; "edge lives rome {id} only")?;
+    Ok(
+        is_put(table, entity.as_bytes())
+            && is_put(table, to.as_bytes())
+            && is_put(table, from.as_bytes())
+            && (id % 3 != 0 || is_put(table, lives.as_bytes())),
+    )
+}
+
+// A table of user 1 with so many friends.
+fn hub(rt: &impl Abort, alloc: Global) -> Result<Table, Fail> {
+    let mut table = nothing(alloc, HEADER)?;
+    assert!(rt; is_put(&mut table, b"entity user 1 7"));
+    for friend in 0..FRIENDS {
+        assert!(rt; is_befriended(alloc, &mut table, friend + 2)?);
+    }
+    assert!(rt; is_put(&mut table, b"edge friend 3 1 public"));
+    Ok(table)
+}
+
+// The hub alone, with others, and on the way to its friends; then joins by a thousand and by all.
+const AT_THE_HUB: &[u8] =
+    b"9 10 friend:1|9 5000 (and friend:1 lives:rome)|9 100 (apply friend: friend:3)|9 5000 (apply friend: friend:1 :limit 1000)|9 10 (apply friend: friend:1 :limit 5000)";
+
+// Whether a question of the large table is answered, on one thread and by two workers.
+fn is_asked(
+    rt: &(impl Threads + Wait + Sync),
+    alloc: Global,
+    table: &Table,
+    version: &Version,
+    text: &[u8],
+) -> Option<bool>
+    requires standing { IsStanding version.now }
+    requires same { version.now.schema ≡ table.now.schema }
+{
+    let Some(question) = read_question(text) else {
+        return None;
+    };
+    is_answered(rt, alloc, &[2], table, version, &question)
+}
+
+#[test]
+fn a_hub(rt: HostRuntime) -> Result<(), Fail> {
+    let table = hub(&rt, rt.alloc())?;
+    let version = version_of(rt.alloc(), &table).ok_or("no version")?;
+    for text in AT_THE_HUB.split(|byte| *byte == b'|') {
+        assert!(rt; is_asked(&rt, rt.alloc(), &table, &version, text) == Some(true));
+    }
+    Ok(())
+}
