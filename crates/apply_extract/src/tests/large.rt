@@ -14,7 +14,7 @@ use uni_base::EntityId;
 use uni_table::Table;
 
 // How many friends user 1 of the large table has.
-const FRIENDS: u64 = 4_000;
+const FRIENDS: u64 = 6_000;
 
 // What opens one of the four lists of the widest query.
 fn opening(number: u64) -> &'static [u8] {
