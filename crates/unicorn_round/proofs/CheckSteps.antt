@@ -1,5 +1,5 @@
 -- Checking line by line.
-use Rattle.std.proofs.Common.{◌≡◌, ◌+◌, ◌<◌, ◌≤◌, ℕ, Bool, true, false, List, [], ◌∷◌, ◌++◌, length, map, filter, None, Some, is_some, if◌then◌else◌, nat_lt, refl, ap, sym, ◌∙◌, subst, arith, append-nil, length-append}
+use Rattle.std.proofs.Common.{◌≡◌, ◌+◌, ◌<◌, ◌≤◌, ℕ, Bool, true, false, List, [], ◌∷◌, ◌++◌, map, filter, None, Some, is_some, if◌then◌else◌, nat_lt, refl, ap, sym, ◌∙◌, subst, arith, append-nil, length-append}
 use Rattle.std.proofs.lemmas.List.Elements.{filter-append}
 use Rattle.uni_schema.specs.Schema.{Declarations}
 use Rattle.uni_table.specs.declared.command.Command.{Command}
@@ -19,17 +19,17 @@ use Rattle.reply_text.specs.Printed.{hit_line, stack_line, lines_of_answers, ans
 use Rattle.script_rounds.specs.Entries.{Entry, change, publish, ask, compact, stats, refused, fault, query_fault, reads_query, line_of}
 use Rattle.script_rounds.specs.Terms.{Terms}
 use Rattle.unicorn_round.specs.declared.stacks.StackCover.{StackCover}
-use Rattle.unicorn_round.specs.Answers.{Standing, opening_standing, after_entry, after_entries, after_round, after_rounds, at_end, answers, entry_answers, entries_answers, round_answers, replies}
+use Rattle.unicorn_round.specs.Answers.{Standing, opening_standing, after_entry, after_entries, after_rounds, at_end, entry_answers, entries_answers, round_answers, replies}
 use Rattle.unicorn_round.specs.Checking.{is_checked, checked_lines, checked_text}
 use Rattle.unicorn_round.specs.CheckState.{CheckState, ChecksFor, EntryChecked, EntriesChecked, RoundsChecked, check_terms, opening_check}
 use Rattle.round_feed.specs.Feeds.{made, changed, published, publish_answers, refusal_answers, too_many_publishes}
 use Rattle.unicorn_round.specs.Marks.{Mark, lacking, RoundRecord}
-use Rattle.unicorn_round.specs.Plain.{plain_mark, plain_marks, plain_round}
-use Rattle.unicorn_round.specs.Records.{IsMarked, IsRoundRecord}
+use Rattle.unicorn_round.specs.Plain.{plain_mark}
+use Rattle.unicorn_round.specs.Records.{IsMarked}
 use Rattle.unicorn_round.specs.Stacks.{is_due, rows_of, tidy_answer, tidy_answers}
 use Rattle.unicorn_round.proofs.LineByLine.{none_done, one_more_done, marks_each, round_more_done}
 use Rattle.unicorn_round.proofs.ServingSteps.{lt_true, lt_false, after_lacking, reading_lacks}
-use Rattle.round_feed.proofs.Steps.{after-snoc, given-snoc, each-snoc, marked_by-snoc, marked_by-length}
+use Rattle.round_feed.proofs.Steps.{given-snoc}
 use Rattle.unicorn_round.proofs.Texts.{text_of-append, lines_of_answers-append}
 
 -- the lines of hits, of stacks and of what a round's end does are none that `check` writes

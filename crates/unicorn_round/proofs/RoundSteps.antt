@@ -1,5 +1,5 @@
 -- Answering line by line: the entries of a round, and its end.
-use Rattle.std.proofs.Common.{◌≡◌, ◌+◌, ◌&&◌, ℕ, Bool, true, false, List, [], ◌∷◌, ◌++◌, length, map, filter, if◌then◌else◌, is_some, nat_lt, refl, ap, sym, ◌∙◌, subst, arith, length-append}
+use Rattle.std.proofs.Common.{◌≡◌, ◌+◌, ℕ, Bool, true, false, List, [], ◌∷◌, ◌++◌, length, map, filter, if◌then◌else◌, is_some, nat_lt, refl, ap, sym, ◌∙◌, subst}
 use Rattle.uni_table.specs.Commands.{next, refuses}
 use Rattle.uni_table.specs.Contents.{ended}
 use Rattle.reply_text.specs.declared.answer.Answer.{Answer}
@@ -7,17 +7,16 @@ use Rattle.reply_text.specs.Printed.{answers_text}
 use Rattle.script_rounds.specs.Entries.{Entry, change, publish, ask, compact, stats, refused, fault, query_fault}
 use Rattle.script_rounds.specs.Terms.{Terms}
 use Rattle.unicorn_round.specs.declared.stacks.StackCover.{StackCover}
-use Rattle.unicorn_round.specs.Answers.{Standing, opening_standing, after_entry, after_entries, after_round, after_rounds, at_end, answers, entry_answers, entries_answers, round_answers, replies}
+use Rattle.unicorn_round.specs.Answers.{Standing, opening_standing, after_entry, after_entries, after_rounds, at_end, answers, entry_answers, entries_answers, round_answers, replies}
 use Rattle.round_feed.specs.Feeds.{Feed, made, fed_one}
 use Rattle.unicorn_round.specs.Marks.{Mark, lacks, RoundRecord}
-use Rattle.unicorn_round.specs.Plain.{plain_mark, plain_marks, plain_round}
-use Rattle.unicorn_round.specs.Records.{IsMarked, IsRoundRecord}
+use Rattle.unicorn_round.specs.Plain.{plain_mark}
 use Rattle.unicorn_round.specs.Serving.{Serving, StandsFor, Answered, AllAnswered, RoundsAnswered, IsLater, filled, filled_at, opening_serving, serving_terms}
-use Rattle.unicorn_round.specs.Stacks.{is_due, is_untidied, due_untidied, tidy, tidy_answer, tidy_answers, name_of}
+use Rattle.unicorn_round.specs.Stacks.{is_due, tidy, tidy_answer, tidy_answers}
 use Rattle.unicorn_round.proofs.LineByLine.{none_done, one_more_done, marks_each, round_more_done}
 use Rattle.unicorn_round.proofs.Lists.{map_append}
 use Rattle.unicorn_round.proofs.JournalSteps.{later-refl, later-trans}
-use Rattle.round_feed.proofs.Steps.{after-snoc, given-snoc, each-snoc, marked_by-snoc, marked_by-length}
+use Rattle.round_feed.proofs.Steps.{after-snoc, given-snoc}
 use Rattle.unicorn_round.proofs.Texts.{answers_text-append}
 
 -- an entry leaves a journal as it is, or makes it longer

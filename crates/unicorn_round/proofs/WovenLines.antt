@@ -7,7 +7,7 @@ use Rattle.reply_text.specs.declared.answer.Answer.{Answer}
 use Rattle.reply_text.specs.declared.answer.Answer.TheVariants as answer
 use Rattle.script_rounds.specs.declared.item.Item.{Item}
 use Rattle.script_rounds.specs.declared.item.Item.TheVariants.{Ask, Compact}
-use Rattle.script_rounds.specs.Entries.{Entry, ask, compact, query_fault, line_of, reads_query}
+use Rattle.script_rounds.specs.Entries.{Entry, ask, compact, line_of, reads_query}
 use Rattle.script_rounds.specs.Terms.{Terms}
 use Rattle.session_asks.specs.declared.asks.AskLine.{AskLine}
 use Rattle.session_asks.specs.Replies.{AreReplied}

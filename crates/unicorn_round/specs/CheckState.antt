@@ -1,17 +1,17 @@
 -- Checking line by line.
-use Rattle.std.specs.Prelude.{ℕ, Bool, ◌≡◌, List, length}
+use Rattle.std.specs.Prelude.{ℕ, Bool, ◌≡◌, List}
 use Rattle.uni_table.specs.Contents.{Contents, empty}
 use Rattle.reply_text.specs.declared.answer.Answer.{Answer}
 use Rattle.reply_text.specs.Printed.{lines_of_answers}
 use Rattle.script_rounds.specs.Entries.{Entry}
 use Rattle.script_rounds.specs.Terms.{Terms}
-use Rattle.unicorn_round.specs.Answers.{Standing, opening_standing, after_entry, after_entries, after_rounds, answers, entry_answers, entries_answers, replies}
+use Rattle.unicorn_round.specs.Answers.{Standing, after_entry, answers, entry_answers, entries_answers, replies}
 use Rattle.unicorn_round.specs.Checking.{checked_lines, checked_text}
 use Rattle.round_feed.specs.Feeds.{made}
 use Rattle.unicorn_round.specs.LineByLine.{EntriesDone, RoundsDone}
 use Rattle.unicorn_round.specs.Marks.{Mark}
-use Rattle.unicorn_round.specs.Plain.{Lacks, plain_mark, plain_marks, plain_record}
-use Rattle.unicorn_round.specs.Records.{IsMarked, AreMarked, IsRecord}
+use Rattle.unicorn_round.specs.Plain.{plain_mark}
+use Rattle.unicorn_round.specs.Records.{IsMarked}
 
 -- where a check stands: the table with what is pending, and how many publishes were made
 pub record CheckState : Type 0 where

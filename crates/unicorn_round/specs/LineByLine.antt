@@ -1,6 +1,6 @@
 -- Scripts that are answered line by line: each entry at the publishes that were made before it, or as one for which
 -- memory was wanting.
-use Rattle.std.specs.Prelude.{ℕ, ◌≡◌, List, [], length}
+use Rattle.std.specs.Prelude.{ℕ, ◌≡◌, List, length}
 use Rattle.uni_schema.specs.Schema.{Declarations}
 use Rattle.reply_text.specs.declared.answer.Answer.{Answer}
 use Rattle.script_rounds.specs.Entries.{Entry}

@@ -1,5 +1,5 @@
 -- Answering line by line.
-use Rattle.std.specs.Prelude.{ℕ, Bool, true, ◌≡◌, List, [], ◌++◌, length, map}
+use Rattle.std.specs.Prelude.{ℕ, Bool, true, ◌≡◌, List, [], ◌++◌, map}
 use Rattle.uni_table.specs.declared.command.Command.{Command}
 use Rattle.uni_table.specs.Contents.{Contents, empty}
 use Rattle.uni_table.specs.Journals.{after_commands, accepts_commands, fold_of}
@@ -9,12 +9,12 @@ use Rattle.reply_text.specs.Printed.{answers_text}
 use Rattle.script_rounds.specs.Entries.{Entry}
 use Rattle.script_rounds.specs.Terms.{Terms}
 use Rattle.unicorn_round.specs.declared.stacks.StackCover.{StackCover}
-use Rattle.unicorn_round.specs.Answers.{Standing, opening_standing, after_entry, after_entries, after_rounds, answers, entry_answers, entries_answers, replies}
+use Rattle.unicorn_round.specs.Answers.{Standing, after_entry, after_entries, answers, entry_answers, entries_answers, replies}
 use Rattle.round_feed.specs.Feeds.{Feed, made}
 use Rattle.unicorn_round.specs.LineByLine.{EntriesDone, RoundsDone}
 use Rattle.unicorn_round.specs.Marks.{Mark}
-use Rattle.unicorn_round.specs.Plain.{Lacks, plain_mark, plain_marks, plain_record}
-use Rattle.unicorn_round.specs.Records.{IsMarked, AreMarked, IsRecord}
+use Rattle.unicorn_round.specs.Plain.{plain_mark}
+use Rattle.unicorn_round.specs.Records.{IsMarked}
 use Rattle.unicorn_round.specs.Stacks.{opening_stacks, rows_of}
 
 -- where an answering line by line stands: the table with what is pending, the pending batch, the table of
