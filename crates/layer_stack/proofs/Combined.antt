@@ -1,5 +1,5 @@
 -- Postings put term by term, by look-ups.
-use Rattle.std.proofs.Common.{◌≡◌, ℕ, zero, suc, ◌+◌, ◌-◌, ◌<◌, ◌≤◌, Bool, true, false, cond, ◌||◌, List, [], ◌∷◌, ◌++◌, map, filter, take, drop, length, get_or, reverse, slice_get, Option, None, Some, refl, sym, ◌∙◌, ap, subst, is_some, arith}
+use Rattle.std.proofs.Common.{◌≡◌, ℕ, zero, suc, ◌+◌, ◌-◌, ◌<◌, ◌≤◌, Bool, true, false, cond, ◌||◌, List, [], ◌∷◌, ◌++◌, map, filter, take, length, get_or, reverse, slice_get, Option, None, Some, refl, sym, ◌∙◌, ap, subst, is_some, arith}
 use Rattle.std.specs.Cmp.{Equal-is}
 use Rattle.std.specs.Prelude.{T}
 use Rattle.std.specs.List.{list_any}
@@ -232,15 +232,6 @@ note_more t terms yielded e older so_far =
 -- what the two directories of a layer note
 pub notes_both : (t : TermKey) (older first new deletes puts : Bool) → first ≡ (older || deletes) → new ≡ (first || puts) → new ≡ (older || (deletes || puts))
 notes_both t older first new deletes puts one two = two ∙ ap (λ b. b || puts) one ∙ or_assoc older deletes puts
-
-pub none_first : {X : Type 0} (xs : List X) → slice_get xs 0 ≡ None → xs ≡ []
-none_first [] e = refl
-none_first (x ∷ xs) e = cc
-
--- the first posting, and then the others
-pub first_put : (t : TermKey) (p : Posting) (ps : List Posting) (c : PostingChanges) → slice_get ps 0 ≡ Some p → putting_list t ps c ≡ putting_list t (drop 1 ps) (putting c (place_of t p.key) p.audience)
-first_put t p [] c first = cc
-first_put t p (q ∷ ps) c first = let is : q ≡ p = ap (λ o. unwrap_or o p) first in ap (λ (x : Posting). putting_list t ps (putting c (place_of t x.key) x.audience)) is
 
 -- the span of the term at a place
 pub span_there : (spans : List (TermKey × Span)) (i : ℕ) (e : TermKey × Span) → T (is_sorted term_cmp spans) → i < length spans → e ≡ get_or spans i e → span_of e.0 spans ≡ Some e.1

@@ -1,5 +1,5 @@
 -- A key among the postings of one layer, none of which stands before it.
-use Rattle.std.proofs.Common.{◌≡◌, true, false, cond, List, [], ◌∷◌, map, filter, drop, None, Some, refl, sym, ◌∙◌, ap, subst, All}
+use Rattle.std.proofs.Common.{◌≡◌, true, false, not, cond, List, [], ◌∷◌, map, filter, drop, Option, None, Some, arith, refl, sym, ◌∙◌, ap, subst, All}
 use Rattle.std.specs.Option.{option_map, unwrap_or}
 use Rattle.std.specs.List.{slice_get}
 use Rattle.std.specs.Ordering.{is_eq}
@@ -10,8 +10,9 @@ use Rattle.uni_base.specs.Cursors.{is_before, IsRanked}
 use Rattle.uni_base.specs.RankOrder.{doc_cmp}
 use Rattle.uni_base.proofs.RankedLemmas.{Standing, before, same, after, standing, is_before_self, is_eq_same, is_eq_swap, IsBeforeAll, IsBeforeAll-ranked}
 use Rattle.posting_lists.specs.declared.posting.Posting.{Posting}
-use Rattle.posting_lists.specs.Postings.{keys_of}
-use Rattle.layer_stack.specs.Stacks.{stands_at, entry_of}
+use Rattle.posting_lists.specs.Postings.{keys_of, postings_from}
+use Rattle.posting_lists.proofs.Sections.{postings_from-at}
+use Rattle.layer_stack.specs.Stacks.{stands_at, entry_of, first_and, first_before}
 
 -- a key that comes before all postings is at none
 pub find_absent : (k : DocKey) (ps : List Posting) → IsBeforeAll k (keys_of ps) → find doc_cmp k (map entry_of ps) ≡ None
@@ -81,3 +82,18 @@ after_first p (q ∷ ps) ranked first =
     let self : is_before p.key q.key ≡ false = subst (λ (x : Posting). is_before p.key x.key ≡ false) (sym is) (is_before_self p.key) in
     let later : IsBeforeAll p.key (keys_of ps) = subst (λ (x : Posting). IsBeforeAll x.key (keys_of ps)) is ranked.0 in
     ap (λ b. cond b (q ∷ filter (λ x. is_before p.key x.key) ps) (filter (λ x. is_before p.key x.key) ps)) self ∙ keep_all p.key ps later
+
+-- the first of postings and the others
+pub first_back : (p : Posting) (ps : List Posting) → slice_get ps 0 ≡ Some p → p ∷ drop 1 ps ≡ ps
+first_back p [] first = cc
+first_back p (q ∷ ps) first = ap (λ x. x ∷ ps) (sym (ap (λ o. unwrap_or o p) first))
+
+-- from a key on, where the first posting comes before it
+pub from_others : (from : DocKey) (o : Option Posting) (ps : List Posting) → first_before from (first_and o ps) ≡ true → postings_from from ps ≡ postings_from from (first_and o ps)
+from_others from None ps is = refl
+from_others from (Some p) ps is = sym (ap (λ b. cond (not b) (p ∷ postings_from from ps) (postings_from from ps)) is)
+
+-- from a key on, where the first posting does not come before it
+pub from_first : (from : DocKey) (ps : List Posting) → IsRanked (keys_of ps) → first_before from ps ≡ false → ps ≡ postings_from from ps
+from_first from [] ranked is = cc
+from_first from (p ∷ ps) ranked is = sym (postings_from-at from (p ∷ ps) 0 ranked (λ j d low fits. absurd (omega (arith, low))) (λ d fits. is))

@@ -12,3 +12,4 @@ pub mod Under
 pub mod Told
 pub mod Settled
 pub mod Combined
+pub mod Passed

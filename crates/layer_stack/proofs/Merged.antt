@@ -1,5 +1,5 @@
 -- What parts stand for together, by look-ups.
-use Rattle.std.proofs.Common.{◌≡◌, ◌++◌, ℕ, ◌+◌, ◌<◌, ◌≤◌, Bool, true, false, cond, ◌||◌, List, [], ◌∷◌, map, filter, length, Option, None, Some, refl, sym, ◌∙◌, ap, subst, arith, All, is_some, ◌⊎◌, inl, inr}
+use Rattle.std.proofs.Common.{◌≡◌, ◌++◌, ℕ, zero, suc, ◌+◌, ◌<◌, ◌≤◌, Bool, true, false, cond, ◌||◌, List, [], ◌∷◌, map, filter, take, drop, get_or, length, Option, None, Some, refl, sym, ◌∙◌, ap, subst, arith, All, is_some, ◌⊎◌, inl, inr}
 use Rattle.std.specs.Prelude.{T}
 use Rattle.std.specs.Option.{unwrap_or}
 use Rattle.std.specs.List.{slice_get}
@@ -351,3 +351,14 @@ pub total_falls : (k : DocKey) (parts : List PartValue) → HasHead k parts → 
 total_falls k [] has = absurd has
 total_falls k (part ∷ parts) (inl e) = omega (arith, head_goes k part.1 e, total_shrinks k parts)
 total_falls k (part ∷ parts) (inr has) = omega (arith, filter_shrinks (λ x. is_before k x.key) part.1, total_falls k parts has)
+
+-- ---- parts of which the first ones are passed
+
+-- a part that is not passed is as it was
+pub not_passed : (f : PartValue → PartValue) (parts now : List PartValue) (i : ℕ) (d : PartValue) → i < length parts → now ≡ map f (take i parts) ++ drop i parts → get_or now i d ≡ get_or parts i d
+not_passed f parts now i d fits is = ap (λ (ps : List PartValue). get_or ps i d) is ∙ by parts i fits
+  where
+    by : (ps : List PartValue) (n : ℕ) → n < length ps → get_or (map f (take n ps) ++ drop n ps) n d ≡ get_or ps n d
+    by [] n low = absurd (omega (arith, low))
+    by (p ∷ ps) zero low = refl
+    by (p ∷ ps) (suc n) low = by ps n (omega (arith, low))

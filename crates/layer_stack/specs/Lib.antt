@@ -7,3 +7,4 @@ pub mod Stacks
 pub mod Words
 pub mod Sources
 pub mod Combined
+pub mod Readers

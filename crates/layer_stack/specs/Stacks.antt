@@ -1,12 +1,12 @@
 -- What a stack has under one term: the deleted keys and the postings of each layer that has the
 -- term, the oldest first.
-use Rattle.std.specs.Prelude.{◌≡◌, Bool, false, Option, None, Some, List, [], ◌∷◌, ◌++◌, ◌==◌, ◌&&◌, length, map, filter, All, cond}
+use Rattle.std.specs.Prelude.{◌≡◌, Bool, true, false, Option, None, Some, List, [], ◌∷◌, ◌++◌, ◌==◌, ◌&&◌, length, map, filter, All, cond}
 use Rattle.std.specs.List.{slice_get}
 use Rattle.std.specs.Ordering.{is_eq}
 use Rattle.std.specs.FinMap as finite
 use Rattle.uni_base.specs.declared.edge.Audience.{Audience}
 use Rattle.uni_base.specs.declared.entity.DocKey.{DocKey}
-use Rattle.uni_base.specs.Cursors.{is_before}
+use Rattle.uni_base.specs.Cursors.{is_before, IsRanked}
 use Rattle.uni_base.specs.RankOrder.{doc_cmp}
 use Rattle.posting_lists.specs.declared.posting.Posting.{Posting}
 use Rattle.posting_lists.specs.Postings.{keys_of}
@@ -51,6 +51,16 @@ part_table parts = stack_table (map part_changes parts)
 abbrev pub remaining_of : List PartValue → List Posting
 remaining_of parts = map posting_at (finite.entries (part_table parts))
 
+-- a posting, if there is one, and then others
+abbrev pub first_and : Option Posting → List Posting → List Posting
+first_and None ps = ps
+first_and (Some p) ps = p ∷ ps
+
+-- whether the first posting comes before a key, or there is none
+abbrev pub first_before : DocKey → List Posting → Bool
+first_before key [] = true
+first_before key (p ∷ ps) = is_before p.key key
+
 -- a part whose postings are those that pass a test of their keys
 abbrev pub part_where : (DocKey → Bool) → PartValue → PartValue
 part_where p part = (part.0, filter (λ x. p x.key) part.1)
@@ -78,3 +88,8 @@ lesser (Some x) (Some y) = cond (is_before x y) (Some x) (Some y)
 abbrev pub least_from : Option DocKey → List PartValue → Option DocKey
 least_from least [] = least
 least_from least (part ∷ parts) = least_from (lesser least (head_of part)) parts
+
+-- parts whose postings are in rank order, and the least key at which one of them stands
+pub record StandAt (head : Option DocKey) (parts : List PartValue) : Type 0 where
+  pub least : head ≡ least_from None parts
+  pub ranked : All (λ part. IsRanked (keys_of part.1)) parts

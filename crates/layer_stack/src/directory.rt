@@ -1,25 +1,22 @@
-ghost use Rattle.std.specs.Prelude.{◌≡◌, ◌≤◌, ◌||◌, IfOk, IfSome, OnOk, length, is_some};
+ghost use Rattle.std.specs.Prelude.{◌≡◌, ◌≤◌, ◌||◌, IfOk, IfSome, OnOk, length, is_some, take};
 ghost use Rattle.layer_stack.specs.Combined.{is_among};
 ghost use Rattle.layer_stack.specs.Words.{IsWordFrom};
 ghost use Rattle.std.specs.Prelude.{T};
 ghost use Rattle.indexmap.specs.IndexMap.{insert_entry};
 ghost use Rattle.std.specs.FinMap.{is_sorted};
-ghost use Rattle.std.specs.List.{slice_get};
-ghost use Rattle.std.specs.Ordering.{eq_by_cmp, is_lt};
-ghost use Rattle.layer_base.specs.Lookups.{comes_before, is_place, IsPlaceOf};
+ghost use Rattle.std.specs.Ordering.{eq_by_cmp};
 ghost use Rattle.layer_stack.specs.Places.{term_cmp, term_of};
 ghost use Rattle.layer_stack.specs.Spans.{spanned, span_of, told};
+ghost use Rattle.layer_stack.specs.Readers.{AreBefore};
 
 use crate::TermKey;
 use crate::words::{is_passed, word_at};
 use indexmap::IndexMap;
 use indexmap::map::Iter;
 use std::alloc::{AllocError, Global};
+use std::cmp::Ordering;
 use std::marker::Model;
 use uni_base::{DocKey, Key, Word};
-
-/// How many terms from a hint on are looked at before all terms are halved.
-const NEAR: usize = 8;
 
 /// Where the rows of a term stand: from a place up to another.
 #[derive(Clone, Copy)]
@@ -77,53 +74,23 @@ impl Directory {
         self.spans.get(term).copied()
     }
 
-    // The same, by a search that begins at a hint, which it moves to where the term stands or would
-    // stand. Terms that are asked for in their order are found at once, without a hash.
-    pub(crate) fn span_near(&self, hint: &mut usize, term: &TermKey) -> Option<Span>
-        requires { T (is_sorted term_cmp self.now) }
-        ensures { result ≡ span_of term.now self.now }
+    // Where the rows of a term stand, given a place up to which all terms come before it. The place moves
+    // on to where the term stands or would stand.
+    pub(crate) fn span_from(&self, at: &mut usize, term: &TermKey) -> Option<Span>
+        requires sorted { T (is_sorted term_cmp self.now) }
+        requires passed { AreBefore term.now (take at.old self.now) }
+        ensures span { result ≡ span_of term.now self.now }
+        ensures passed { AreBefore term.now (take at.new self.now) }
     {
-        let at = self.place_near(*hint, term);
-        *hint = at;
-        let Some((found, span)) = self.spans.get_index(at) else {
-            return None;
-        };
-        if is_same(found, term) {
-            Some(*span)
-        } else {
-            None
-        }
-    }
-
-    // Where a term stands or would stand, by a search that begins at a hint.
-    fn place_near(&self, hint: usize, term: &TermKey) -> usize
-        requires { T (is_sorted term_cmp self.now) }
-        ensures { IsPlaceOf term_cmp term.now self.now result }
-    {
-        for at in hint..hint.saturating_add(NEAR) {
-            if self.is_place(at, term) {
-                return at;
+        while *at < self.spans.len() {
+            let (found, span) = self.spans.get_index(*at)?;
+            match found.cmp(term) {
+                Ordering::Less => *at += 1,
+                Ordering::Equal => return Some(*span),
+                Ordering::Greater => return None,
             }
         }
-        self.spans
-            .partition_point(|found, _span| is_before(found, term))
-    }
-
-    // Whether a place is where a term stands or would stand.
-    fn is_place(&self, at: usize, term: &TermKey) -> bool
-        ensures { result ≡ is_place term_cmp term.now self.now at }
-    {
-        (at == 0 || self.comes_before(at - 1, term)) && !self.comes_before(at, term)
-    }
-
-    // Whether there is a term at a place, and it comes before another.
-    fn comes_before(&self, at: usize, term: &TermKey) -> bool
-        ensures { result ≡ comes_before term_cmp term.now (slice_get self.now at) }
-    {
-        match self.spans.get_index(at) {
-            Some((found, _span)) => is_before(found, term),
-            None => false,
-        }
+        None
     }
 
     // The terms in their order, each with where its rows stand.
@@ -158,13 +125,6 @@ impl Directory {
         let (term, _span) = self.spans.get_index(at)?;
         word_at(term, type_no)
     }
-}
-
-// Whether a term comes before another.
-fn is_before(term: &TermKey, other: &TermKey) -> bool
-    ensures { result ≡ is_lt (term_cmp term.now other.now) }
-{
-    term.cmp(other).is_lt()
 }
 
 pub(crate) fn is_same(term: &TermKey, other: &TermKey) -> bool

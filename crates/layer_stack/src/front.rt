@@ -1,13 +1,13 @@
-ghost use Rattle.std.specs.Prelude.{◌≡◌, ◌≤◌, length, take, IfOk, OnOk};
+ghost use Rattle.std.specs.Prelude.{◌≡◌, ◌≤◌, [], All, length, take, IfOk, IfSome, OnOk};
 ghost use Rattle.layer_base.specs.Layers.{stack_table};
 ghost use Rattle.layer_stack.specs.Combined.{putting_terms};
 ghost use Rattle.layer_stack.specs.Postings.{postings_of, putting_list};
+ghost use Rattle.layer_stack.specs.Readers.{layers_read, StandBefore};
 ghost use Rattle.layer_stack.specs.Stacks.{remaining_of};
 
-use crate::layer::{Hints, START};
-use crate::merge::{settle, step_on};
+use crate::merge::{least, next};
 use crate::part::Part;
-use crate::parts::add_part;
+use crate::reader::LayerReader;
 use crate::{Delta, Stack, TermKey};
 use std::alloc::{AllocError, Global};
 use std::marker::Model;
@@ -16,25 +16,27 @@ use std::marker::Model;
 /// order are found in each layer at once, and all of them use the same memory.
 #[derive(Drop)]
 pub(crate) struct FrontReader<'a> {
-    stack: &'a Stack,
     // One for each of the layers.
-    hints: Vec<Hints>,
+    readers: Vec<LayerReader<'a>>,
+    // The term that was read last. The readers have passed terms before it alone.
+    last: Option<TermKey>,
     parts: Vec<Part<'a>>,
 }
 
 impl<'a> Model for FrontReader<'a> {
-    ghost use Rattle.std.specs.Prelude.{◌≤◌, List, length, take};
+    ghost use Rattle.std.specs.Prelude.{List, IfSome};
     ghost use Rattle.std.specs.Coded.{codes};
     ghost use Rattle.std.specs.FinMap as finite;
     ghost use Rattle.layer_stack.specs.Postings.{PostingChanges};
+    ghost use Rattle.layer_stack.specs.Readers.{layers_read, StandBefore};
 
     ghost Value = { List PostingChanges };
 
     ghost coded = { Prim.hlevel (codes, finite.code) };
 
-    ghost view = { λ r. take (length r.hints.items) r.stack.now.0 };
+    ghost view = { λ r. layers_read r.readers.items };
 
-    ghost invariant = { λ r. length r.hints.items ≤ length r.stack.now.0 };
+    ghost invariant = { λ r. IfSome r.last (λ t. StandBefore t r.readers.items) };
 }
 
 impl<'a> FrontReader<'a> {
@@ -47,13 +49,13 @@ impl<'a> FrontReader<'a> {
         requires { count ≤ length stack.now.0 }
         ensures { IfOk result (λ reader. reader ≡ take count stack.now.0) }
     {
-        let mut hints = Vec::with_capacity(alloc, count)?;
-        for _i in 0..count {
-            hints.push(START)?;
+        let mut readers = Vec::with_capacity(alloc, count)?;
+        for i in 0..count {
+            readers.push(stack.layer(i).reader())?;
         }
         Ok(FrontReader {
-            stack,
-            hints,
+            readers,
+            last: None,
             parts: Vec::new(alloc),
         })
     }
@@ -78,27 +80,50 @@ impl<'a> FrontReader<'a> {
         ensures same { self.new ≡ self.old }
         ensures put { OnOk result (delta.new ≡ putting_list term.now (postings_of term.now (stack_table self.old)) delta.old) }
     {
-        gather(self.stack, &mut self.hints, term, &mut self.parts)?;
+        turn_to(&mut self.readers, &self.last, term);
+        self.last = Some(*term);
+        gather(&mut self.readers, term, &mut self.parts)?;
         put_parts(delta, term, &mut self.parts)
     }
 }
 
-// What the first layers of a stack have under a term, in place of what was there before. There is a
-// hint for each of the layers, at which its searches begin.
+// Readies readers for a term: unless it comes after the last one, they go back to the first terms.
+fn turn_to(readers: &mut [LayerReader<'_>], last: &Option<TermKey>, term: &TermKey)
+    requires { IfSome last.now (λ t. StandBefore t readers.old) }
+    ensures same { layers_read readers.new ≡ layers_read readers.old }
+    ensures ready { StandBefore term.now readers.new }
+{
+    if let Some(last) = last {
+        if last.cmp(term).is_lt() {
+            return;
+        }
+    }
+    restart_all(readers);
+}
+
+fn restart_all(readers: &mut [LayerReader<'_>])
+    ensures same { layers_read readers.new ≡ layers_read readers.old }
+    ensures start { All (λ r. r.1 ≡ []) readers.new }
+{
+    for reader in readers.iter_mut() {
+        reader.restart();
+    }
+}
+
+// What layers have under a term, in place of what was there before.
 fn gather<'a>(
-    stack: &'a Stack,
-    hints: &mut [Hints],
+    readers: &mut [LayerReader<'a>],
     term: &TermKey,
     parts: &mut Vec<Part<'a>>,
 ) -> Result<(), AllocError>
-    requires { length hints.old ≤ length stack.now.0 }
-    ensures parts { OnOk result (remaining_of parts.new.items ≡ postings_of term.now (stack_table (take (length hints.old) stack.now.0))) }
-    ensures hints { length hints.new ≡ length hints.old }
+    requires { StandBefore term.now readers.old }
+    ensures parts { OnOk result (remaining_of parts.new.items ≡ postings_of term.now (stack_table (layers_read readers.old))) }
+    ensures same { layers_read readers.new ≡ layers_read readers.old }
+    ensures ready { StandBefore term.now readers.new }
 {
     parts.clear();
-    for i in 0..hints.len() {
-        let part = stack.layer(i).part_near(&mut hints[i], term);
-        add_part(parts, part)?;
+    for reader in readers.iter_mut() {
+        reader.add_to(parts, term)?;
     }
     Ok(())
 }
@@ -107,10 +132,9 @@ fn gather<'a>(
 fn put_parts(delta: &mut Delta, term: &TermKey, parts: &mut [Part<'_>]) -> Result<(), AllocError>
     ensures { OnOk result (delta.new ≡ putting_list term.now (remaining_of parts.old) delta.old) }
 {
-    let mut front = settle(parts);
-    while let Some(posting) = front {
+    let mut head = least(parts);
+    while let Some(posting) = next(parts, &mut head) {
         delta.put(*term, posting)?;
-        front = step_on(parts, &posting.key);
     }
     Ok(())
 }

@@ -1,4 +1,4 @@
-ghost use Rattle.std.specs.Prelude.{◌≡◌, ◌<◌, ◌≤◌, ◌+◌, ◌^◌, ◌||◌, Some, take, length, IfOk, IfSome, OnOk};
+ghost use Rattle.std.specs.Prelude.{◌≡◌, ◌<◌, ◌≤◌, ◌+◌, ◌^◌, ◌||◌, [], Some, take, length, IfOk, IfSome, OnOk};
 ghost use Rattle.std.specs.List.{slice_get};
 ghost use Rattle.posting_lists.specs.Postings.{keys_of, section};
 ghost use Rattle.uni_base.specs.Cursors.{IsRanked};
@@ -11,6 +11,7 @@ ghost use Rattle.layer_stack.specs.Words.{has_term, IsWordFrom};
 use crate::combine::combined;
 use crate::directory::{Directory, Span, keys_at};
 use crate::part::Part;
+use crate::reader::LayerReader;
 use crate::settle::{settle_keys, settle_postings};
 use crate::words::earlier;
 use crate::{Delta, Stack, TermKey};
@@ -22,20 +23,6 @@ use uni_base::{DocKey, Steps, Word};
 
 /// How many deletes, and how many puts, a layer has at most.
 const MOST_ROWS: usize = 1 << 61;
-
-/// Where searches for a term begin in a layer: among the terms at which it deletes, and among those
-/// at which it puts.
-#[derive(Clone, Copy)]
-pub(crate) struct Hints {
-    pub(crate) deletes: usize,
-    pub(crate) puts: usize,
-}
-
-/// Hints at the first terms.
-pub(crate) const START: Hints = Hints {
-    deletes: 0,
-    puts: 0,
-};
 
 /// A layer of a stack of postings: the postings that it deletes, and those that it puts. The
 /// postings of all terms lie in one row of columns, and so do the deleted keys.
@@ -124,17 +111,11 @@ impl Layer {
         Part::new(deletes, puts)
     }
 
-    // The same, by searches that begin at hints. Terms that are asked for in their order are found at
-    // once.
-    pub(crate) fn part_near(&self, hints: &mut Hints, term: &TermKey) -> Part<'_>
-        ensures { result ≡ (deletes_of term.now self.now, postings_of term.now self.now.puts) }
+    // A reader of what it has under one term after another.
+    pub(crate) fn reader(&self) -> LayerReader<'_>
+        ensures { result ≡ (self.now, []) }
     {
-        let deletes = keys_at(
-            &self.deleted,
-            self.deletes.span_near(&mut hints.deletes, term),
-        );
-        let puts = list_at(&self.postings, self.puts.span_near(&mut hints.puts, term));
-        Part::new(deletes, puts)
+        LayerReader::over(&self.puts, &self.postings, &self.deletes, &self.deleted)
     }
 
     // Adds the terms at which it deletes or puts to a list.
@@ -164,7 +145,7 @@ impl Layer {
 }
 
 // The list that a span tells of columns, empty where there is no span.
-fn list_at(postings: &PostingColumns, span: Option<Span>) -> ListCursor<'_>
+pub(crate) fn list_at(postings: &PostingColumns, span: Option<Span>) -> ListCursor<'_>
     requires within { IfSome span (λ s. (s.from ≤ s.to) × (s.to ≤ length postings.now)) }
     requires ranked { IsRanked (keys_of (told span postings.now)) }
     ensures { result ≡ told span postings.now }

@@ -14,6 +14,7 @@ mod merging;
 mod part;
 mod parts;
 mod place;
+mod reader;
 mod runs;
 mod settle;
 mod stack;

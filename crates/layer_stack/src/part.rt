@@ -61,27 +61,20 @@ impl<'a> Part<'a> {
         self.puts.peek()
     }
 
-    // The answer at a key, given that of the older layers.
-    pub(crate) fn over(&self, older: Option<Audience>, key: &DocKey) -> Option<Audience>
-        requires { StandsFrom key.now self.now }
-        ensures { result ≡ either (find doc_cmp key.now (map entry_of self.now.1)) (cond (has_key self.now.0 key.now) None older) }
+    // The answer at a key, given that of the older layers. It passes the posting there.
+    pub(crate) fn take(&mut self, older: Option<Audience>, key: &DocKey) -> Option<Audience>
+        requires { StandsFrom key.now self.old }
+        ensures answer { result ≡ either (find doc_cmp key.now (map entry_of self.old.1)) (cond (has_key self.old.0 key.now) None older) }
+        ensures passed { self.new ≡ part_where (is_before key.now) self.old }
     {
         if self.stands_at(key) {
-            self.puts.audience()
+            let audience = self.puts.audience();
+            self.puts.step();
+            audience
         } else if holds(self.deletes, key) {
             None
         } else {
             older
-        }
-    }
-
-    // Passes the posting at the least key.
-    pub(crate) fn pass(&mut self, key: &DocKey)
-        requires { StandsFrom key.now self.old }
-        ensures { self.new ≡ part_where (is_before key.now) self.old }
-    {
-        if self.stands_at(key) {
-            self.puts.step();
         }
     }
 

@@ -94,7 +94,7 @@ impl Stack {
         for i in 0..self.layers() {
             let mut part = self.layer(i).part(term);
             part.seek(key);
-            answer = part.over(answer, &key);
+            answer = part.take(answer, &key);
         }
         answer
     }

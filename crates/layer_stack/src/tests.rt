@@ -174,12 +174,19 @@ fn is_term_read(
     Some(cursor.peek().is_none())
 }
 
-// Whether a stack is read as the fold over its changes is.
+// Whether both terms of a stack are read as they are folded.
+fn are_terms_read(alloc: Global, stack: &Stack, folded: &Folded) -> Option<bool> {
+    let word = is_term_read(alloc, stack, 0, 0, folded)?;
+    Some(word && is_term_read(alloc, stack, 1, 8, folded)?)
+}
+
+// Whether a stack, and all its layers as one, are read as the fold over its changes is.
 fn is_read(alloc: Global, case: u64) -> Option<bool> {
     let mut folded = [None; PLACES];
     let stack = noisy_stack(alloc, case, &mut folded)?;
-    let word = is_term_read(alloc, &stack, 0, 0, &folded)?;
-    Some(word && is_term_read(alloc, &stack, 1, 8, &folded)?)
+    let layer = stack.combined(alloc, stack.layers()).ok()?;
+    let combined = stack_of(alloc, layer)?;
+    Some(are_terms_read(alloc, &stack, &folded)? && are_terms_read(alloc, &combined, &folded)?)
 }
 
 // Stacks of 1 to 9 layers are read like the table that a plain fold over their changes makes.

@@ -1,34 +1,32 @@
-use Rattle.std.proofs.Common.{rules, arith, ◌≡◌, ◌<◌, List, length, length-drop, None, Some, slice_get, ap, ◌∙◌, sym, subst}
-use Rattle.std.proofs.lemmas.Option.{slice_get_within}
+use Rattle.std.proofs.Common.{arith, ◌≡◌, ◌<◌, ◌∷◌, [], List, Option, IfNone, length, refl, ap, ◌∙◌, sym, subst}
 use Rattle.posting_lists.specs.declared.posting.Posting.{Posting}
 use Rattle.layer_stack.specs.Postings.{putting_list}
-use Rattle.layer_stack.specs.Stacks.{remaining_of}
-use Rattle.layer_stack.proofs.Combined.{none_first, first_put}
-use Rattle.layer_stack.proofs.Heads.{after_first}
-use Rattle.layer_stack.proofs.Merged.{remaining_ranked}
+use Rattle.layer_stack.specs.Stacks.{remaining_of, first_and}
 use Rattle.layer_stack.proofs.front.put_parts.Goals as goal
 
-pub loop-front-smaller : goal.loop-front-smaller
-loop-front-smaller c =
-    let p = c.in-Some.posting in let ps = remaining_of c.loop-front.parts in
-    let front : slice_get ps 0 ≡ Some p = search rules in
-    let left = c.step_on-front.ensures.left ∙ after_first p ps (remaining_ranked c.loop-front.parts) front in
-    subst (λ (xs : List Posting). length xs < length ps) (sym left) (omega (arith, length-drop 1 ps, slice_get_within ps 0 p front))
+pub loop-posting-init : goal.loop-posting-init
+loop-posting-init c = record { put = refl; stand = c.least-head.ensures }
 
-pub loop-front-preserved : goal.loop-front-preserved
-loop-front-preserved c =
-    let p = c.in-Some.posting in let ps = remaining_of c.loop-front.parts in let t = c.args.term.now in
-    let front : slice_get ps 0 ≡ Some p = search rules in
-    let left = c.step_on-front.ensures.left ∙ after_first p ps (remaining_ranked c.loop-front.parts) front in
+pub next-requires : goal.next-requires
+next-requires c = c.loop-posting.invariant.stand
+
+pub loop-posting-smaller : goal.loop-posting-smaller
+loop-posting-smaller c =
+    let first : c.in-Some.posting ∷ remaining_of c.next.new.parts ≡ remaining_of c.loop-posting.parts = ap (λ o. first_and o (remaining_of c.next.new.parts)) (sym c.in-Some.is) ∙ c.next.ensures.first in
+    subst (λ (xs : List Posting). length (remaining_of c.next.new.parts) < length xs) first (omega arith)
+
+pub loop-posting-preserved : goal.loop-posting-preserved
+loop-posting-preserved c =
+    let p = c.in-Some.posting in let t = c.args.term.now in
+    let first : p ∷ remaining_of c.next.new.parts ≡ remaining_of c.loop-posting.parts = ap (λ o. first_and o (remaining_of c.next.new.parts)) (sym c.in-Some.is) ∙ c.next.ensures.first in
     record {
-      put = (λ j. putting_list t (left j) (c.in_ok-put.ensures.ok j)) ∙ sym (first_put t p ps c.loop-front.delta front) ∙ c.loop-front.invariant.put;
-      front = c.step_on-front.ensures.front;
-      stand = c.step_on-front.ensures.stand;
+      put = ap (putting_list t (remaining_of c.next.new.parts)) c.in_ok-put.ensures.ok ∙ ap (λ ps. putting_list t ps c.loop-posting.delta) first ∙ c.loop-posting.invariant.put;
+      stand = c.next.ensures.least;
     }
 
 pub returns : goal.returns
 returns c =
-    let t = c.args.term.now in
-    let gone : slice_get (remaining_of c.loop-front.parts) 0 ≡ None = search rules in
-    sym (ap (λ ps. putting_list t ps c.loop-front.delta) (none_first (remaining_of c.loop-front.parts) gone)) ∙ c.loop-front.invariant.put
-    ∙ ap (λ ps. putting_list t ps c.args.delta.now) c.settle-front.ensures.same
+    let t = c.args.term.now in let o = c.next.result in
+    let none : remaining_of c.next.new.parts ≡ [] = subst (λ (x : Option Posting). IfNone x (remaining_of c.next.new.parts ≡ [])) c.in_default.is c.next.ensures.none in
+    let gone : [] ≡ remaining_of c.loop-posting.parts = sym none ∙ ap (λ x. first_and x (remaining_of c.next.new.parts)) (sym c.in_default.is) ∙ c.next.ensures.first in
+    ap (λ ps. putting_list t ps c.loop-posting.delta) gone ∙ c.loop-posting.invariant.put

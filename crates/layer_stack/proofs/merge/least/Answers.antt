@@ -1,5 +1,5 @@
 use Rattle.std.proofs.Common.{◌≡◌, ◌+◌, ◌++◌, ◌∷◌, [], List, take, drop, All, ap, ◌∙◌, sym, subst}
-use Rattle.std.proofs.lemmas.List.{take_more, drop_more, take_all}
+use Rattle.std.proofs.lemmas.List.{take_more, drop_more, take_all, drop_all}
 use Rattle.std.proofs.lemmas.List.Elements.{All-push}
 use Rattle.uni_base.specs.Cursors.{IsRanked}
 use Rattle.posting_lists.specs.Postings.{keys_of}
@@ -16,6 +16,10 @@ loop-part-preserved c =
       ranked = subst (λ (ps : List PartValue). All (λ part. IsRanked (keys_of part.1)) ps) (sym more) (All-push (λ (p : PartValue). IsRanked (keys_of p.1)) (take i parts) part c.loop-part.invariant.ranked c.head.ensures.ranked);
     }
 
-pub returns-clause-ranked : goal.returns-clause-ranked
-returns-clause-ranked c =
-    subst (λ (ps : List PartValue). All (λ part. IsRanked (keys_of part.1)) ps) (take_all c.loop-part.part-index c.args.parts.now c.loop-part-test.false) c.loop-part.invariant.ranked
+pub returns : goal.returns
+returns c =
+    let i = c.loop-part.part-index in let parts = c.args.parts.now in
+    record {
+      least = sym (ap (least_from c.loop-part.least) (drop_all i parts c.loop-part-test.false)) ∙ c.loop-part.invariant.least;
+      ranked = subst (λ (ps : List PartValue). All (λ part. IsRanked (keys_of part.1)) ps) (take_all i parts c.loop-part-test.false) c.loop-part.invariant.ranked;
+    }

@@ -14,8 +14,8 @@ use Rattle.layer_stack.proofs.stack.Stack.find.Goals as goal
 pub loop-i-init : goal.loop-i-init
 loop-i-init c = sym (finite.get-empty place_cmp (place_of c.args.term.now c.args.key))
 
-pub over-answer-requires : goal.over-answer-requires
-over-answer-requires c = subst (StandsFrom c.args.key) (sym c.seek.ensures) (stands_after c.args.key c.part-part.result.1)
+pub take-answer-requires : goal.take-answer-requires
+take-answer-requires c = subst (StandsFrom c.args.key) (sym c.seek.ensures) (stands_after c.args.key c.part-part.result.1)
 
 pub loop-i-preserved : goal.loop-i-preserved
 loop-i-preserved c =
@@ -24,7 +24,7 @@ loop-i-preserved c =
     let is : c.deref.result.now ≡ layer = search rules in
     let part : c.part-part.result ≡ (deletes_of t layer, postings_of t layer.puts) = c.part-part.ensures ∙ ap (λ l. (deletes_of t l, postings_of t l.puts)) is in
     let older = finite.get (stack_table (take i layers)) (place_of t key) in
-    c.over-answer.ensures
+    c.take-answer.ensures.answer
     ∙ (λ j. either (find doc_cmp key (map entry_of (c.seek.ensures j).1)) (cond (has_key (c.seek.ensures j).0 key) None (c.loop-i.invariant j)))
     ∙ ap (λ said. either said (cond (has_key c.part-part.result.0 key) None older)) (find_after key c.part-part.result.1)
     ∙ (λ j. either (find doc_cmp key (map entry_of (part j).1)) (cond (has_key (part j).0 key) None older))
