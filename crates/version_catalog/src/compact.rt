@@ -13,9 +13,9 @@ impl Catalogue {
     ghost use Rattle.version_catalog.specs.Seats.{settings_of, compactor_journal, compactor_turns, IsCompactorOf};
     ghost use Rattle.version_catalog.specs.Turns.{IsBase};
 
-    /// Merges the layers that a stack has at a pin, outside any turn, and puts the result in their place. Where
-    /// another replica of the shard has one layer alone by then, that one is shared. Ok is the number of
-    /// publishes at the pin. It takes two turns at most.
+    /// Puts one layer in place of those that a stack has at a pin. It merges the layers of that replica of the
+    /// shard which has the fewest then, outside any turn; where that is one layer alone, it is shared. Ok is
+    /// the number of publishes at the pin. It takes two turns at most.
     pub fn compact<R: Wait>(
         &self,
         rt: &R,

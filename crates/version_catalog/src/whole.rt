@@ -1,6 +1,6 @@
 //! One layer that by itself stands for a shard of a version.
 ghost use Rattle.std.specs.Prelude.{◌≡◌, ◌<◌, [], ◌∷◌, length, IfOk, IfSome};
-ghost use Rattle.shard_index.specs.Places.{IsStack, shards_in};
+ghost use Rattle.shard_index.specs.Places.{IsStack};
 ghost use Rattle.shard_index.specs.Rows.{no_rows, layer_of, layer_over, stack_rows};
 ghost use Rattle.shard_index.specs.Versions.{StandsAt};
 
@@ -11,7 +11,7 @@ use shard_index::{EntityLayer, ShardIndex, ShardLayer, Version};
 use std::alloc::{AllocError, Global};
 use std::sync::Arc;
 
-/// The one layer of a replica that has no other, if there is such a one; else the layers of this replica merged.
+/// The layers of the replica that has the fewest, merged. Where these are one layer alone, it is shared.
 pub(crate) fn whole(
     alloc: Global,
     version: &Version,
@@ -22,26 +22,28 @@ pub(crate) fn whole(
     requires { IsStack version.now.schema vertical shard replica }
     ensures { IfOk result (λ layer. StandsAt version.now (layer ∷ []) vertical shard) }
 {
-    match single(version, vertical, shard) {
-        Some(index) => shared(alloc, index),
-        None => merged(alloc, version.shard(vertical, shard, replica)),
+    let index = shortest(version, vertical, shard, replica);
+    if index.layers() == 1 {
+        shared(alloc, index)
+    } else {
+        merged(alloc, index)
     }
 }
 
-// The first replica of a shard whose stack is one layer.
-fn single(version: &Version, vertical: u16, shard: u32) -> Option<&ShardIndex>
-    requires vertical { vertical < length version.now.schema.verticals }
-    requires shard { shard < shards_in version.now.schema vertical }
-    ensures one { IfSome result (λ index. length index.now.0 ≡ 1) }
-    ensures rows { IfSome result (λ index. StandsAt version.now index.now.0 vertical shard) }
+// The stack of a shard with the fewest layers, that of a given replica where no other has fewer. All replicas
+// have the same rows, and the one that was merged last costs least to merge again.
+fn shortest(version: &Version, vertical: u16, shard: u32, replica: u32) -> &ShardIndex
+    requires { IsStack version.now.schema vertical shard replica }
+    ensures { StandsAt version.now result.now.0 vertical shard }
 {
-    for replica in 0..version.schema().vertical(vertical).replicas {
-        let index = version.shard(vertical, shard, replica);
-        if index.layers() == 1 {
-            return Some(index);
+    let mut shortest = version.shard(vertical, shard, replica);
+    for other in 0..version.schema().vertical(vertical).replicas {
+        let index = version.shard(vertical, shard, other);
+        if index.layers() < shortest.layers() {
+            shortest = index;
         }
     }
-    None
+    shortest
 }
 
 // The layer of a stack that has no other, over the same postings and records.
