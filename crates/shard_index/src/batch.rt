@@ -1,6 +1,6 @@
 //! The layers of a batch: what takes the rows of each shard from what they were as the last batch ended
 //! to what they are now.
-ghost use Rattle.std.specs.Prelude.{◌<◌, length, IfOk, OnOk};
+ghost use Rattle.std.specs.Prelude.{◌≡◌, ◌<◌, length, IfOk, OnOk};
 ghost use Rattle.uni_table.specs.Changes.{AreEdgeChanges, AreEntityChanges};
 ghost use Rattle.shard_index.specs.Batches.{all_shards, shards_at, shard_place, TakesOver, TakeOver, TakesMore};
 ghost use Rattle.shard_index.specs.Split.{OwnEdges, OwnEntities, told};
@@ -8,7 +8,7 @@ ghost use Rattle.shard_index.specs.Split.{OwnEdges, OwnEntities, told};
 use crate::ShardLayer;
 use std::alloc::{AllocError, Global};
 use std::sync::Arc;
-use uni_table::{EdgeChange, EntityChange, Table};
+use uni_table::{ChangedEdges, EdgeChange, EdgeChanges, EntityChange, Table};
 
 mod entities;
 mod postings;
@@ -30,6 +30,7 @@ pub fn batch_layers(alloc: Global, table: &Table) -> Result<Vec<ShardLayer>, All
 {
     let entities = table.changed_entities()?;
     let edges = table.changed_edges()?;
+    let edges = listed(&edges)?;
     let mut layers = Vec::new(alloc);
     for vertical in 0..table.schema().verticals() {
         add_vertical(
@@ -42,6 +43,14 @@ pub fn batch_layers(alloc: Global, table: &Table) -> Result<Vec<ShardLayer>, All
         )?;
     }
     Ok(layers)
+}
+
+// The changes of a view as a list.
+fn listed(edges: &ChangedEdges<'_>) -> Result<EdgeChanges, AllocError>
+    ensures { IfOk result (λ changes. changes ≡ edges.now) }
+{
+    let changes = edges.part(0, edges.len())?;
+    Ok(changes)
 }
 
 // Adds the layers of the shards of a vertical.
