@@ -18,6 +18,7 @@ use uni_table::{Command, Table};
 
 // How many friends user 1 of a large table has, and of a larger one.
 const FRIENDS: u64 = 6_000;
+
 const MOST_FRIENDS: u64 = 100_000;
 
 // What opens one of the four lists of the widest query.
@@ -187,5 +188,10 @@ fn a_hub(rt: HostRuntime) -> Result<(), Fail> {
 
 #[test]
 fn a_large_hub(rt: HostRuntime) -> Result<(), Fail> {
-    are_asked(&rt, rt.alloc(), &large_hub(&rt, rt.alloc())?, AT_THE_LARGE_HUB)
+    are_asked(
+        &rt,
+        rt.alloc(),
+        &large_hub(&rt, rt.alloc())?,
+        AT_THE_LARGE_HUB,
+    )
 }
