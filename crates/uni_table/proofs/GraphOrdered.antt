@@ -1,6 +1,7 @@
 -- The changes of edges, as they are made of places in the order of the edges.
-use Rattle.std.proofs.Common.{◌≡◌, ℕ, Bool, true, false, if◌then◌else◌, List, [], ◌∷◌, Option, None, Some, refl, sym, ◌∙◌, ap, subst, length, slice_get, nat_eq, ◌<◌}
+use Rattle.std.proofs.Common.{◌≡◌, ℕ, suc, Bool, true, false, if◌then◌else◌, List, [], ◌∷◌, Option, None, Some, refl, sym, ◌∙◌, ap, subst, length, slice_get, nat_eq, ◌<◌}
 use Rattle.std.proofs.lemmas.Map.Entries.{length-keys_of}
+use Rattle.std.proofs.lemmas.List.Sorted.{length_permutation}
 use Rattle.std.proofs.lemmas.Option.{slice_get-get_or}
 use Rattle.std.specs.List.{IsDistinct, filter_map, cons_option}
 use Rattle.std.specs.List.Sorted.{IsPermutation, IsSortedByKey}
@@ -11,9 +12,9 @@ use Rattle.uni_base.specs.declared.edge.Key.{Key}
 use Rattle.uni_base.specs.declared.edge.Key.TheVariants.{Id, Word}
 use Rattle.uni_base.specs.EdgeOrder.{edge_cmp}
 use Rattle.uni_table.specs.Changes.{AreEdgeChanges, IsEdgeChange}
-use Rattle.uni_table.specs.GraphChanges.{AreAffected, change_of, change_told, edge_change, edge_change_at, is_affected}
+use Rattle.uni_table.specs.GraphChanges.{AreAffected, change_of, edge_change, edge_change_at, is_affected}
 use Rattle.uni_table.specs.GraphKeys.{edge_total, exact_edges}
-use Rattle.uni_table.specs.GraphOrder.{short_key, key_meant, edge_told, placed, placed_at, placed_change}
+use Rattle.uni_table.specs.GraphOrder.{HaveChanges, short_key, key_meant, edge_told, placed, affected_by, affected_at, placed_change}
 use Rattle.uni_table.specs.GraphRows.{IsRows, contents_of, published_of, edge_named, source_named}
 use Rattle.uni_table.specs.declared.change.EdgeChange.{EdgeChange}
 use Rattle.uni_table.specs.declared.graph.numbers.EdgeNo.{EdgeNo}
@@ -39,13 +40,9 @@ module _ (rows : Rows) where
   told-change : (p : PlacedEdge) → IsNamed (edge_told rows) (λ (c : EdgeChange). c.edge) (placed_change rows) edge_total p
   told-change p c is = by (slice_get rows.edges.entries p.place) is
     where
-      made : (e : EdgeNo × Slot) (b : Bool) → (if b then Some (change_of rows (edge_told rows p) e) else None) ≡ Some c → c.edge ≡ edge_told rows p
-      made e false h = cc
-      made e true h = cc
-
-      by : (o : Option (EdgeNo × Slot)) → option_and_then (change_told rows (edge_told rows p)) o ≡ Some c → c.edge ≡ edge_told rows p
+      by : (o : Option (EdgeNo × Slot)) → option_map (change_of rows (edge_told rows p)) o ≡ Some c → c.edge ≡ edge_told rows p
       by None h = cc
-      by (Some e) h = made e (is_affected rows e) h
+      by (Some e) h = let same : change_of rows (edge_told rows p) e ≡ c = cc in ap (λ (x : EdgeChange). x.edge) (sym same)
 
   module _ (kept : IsRows rows) where
     -- the edge at a place is told by what it is ordered by
@@ -57,27 +54,58 @@ module _ (rows : Rows) where
         (slice_get-get_or sources e.0.source (record { type_no = 0; key = Id 0 }) within) refl in
         λ j. record { type_no = (named e).type_no; key = key j; target = (named e).target }
 
-    -- so the changes at places are those of the edges there
-    picks : (places : List ℕ) → filter_map (placed_change rows) (filter_map (placed_at rows) places) ≡ filter_map (edge_change_at rows) places
+    -- so the changes at places are those of the edges there that are affected
+    picks : (places : List ℕ) → filter_map (placed_change rows) (filter_map (affected_at rows) places) ≡ filter_map (edge_change_at rows) places
     picks [] = refl
     picks (p ∷ ps) = by (slice_get rows.edges.entries p) refl (picks ps)
       where
-        by : (o : Option (EdgeNo × Slot)) → slice_get rows.edges.entries p ≡ o → filter_map (placed_change rows) (filter_map (placed_at rows) ps) ≡ filter_map (edge_change_at rows) ps
-            → filter_map (placed_change rows) (cons_option (option_map (λ e. placed e.0 p (named e)) o) (filter_map (placed_at rows) ps))
+        by : (o : Option (EdgeNo × Slot)) → slice_get rows.edges.entries p ≡ o → filter_map (placed_change rows) (filter_map (affected_at rows) ps) ≡ filter_map (edge_change_at rows) ps
+            → filter_map (placed_change rows) (cons_option (option_and_then (affected_by rows p) o) (filter_map (affected_at rows) ps))
             ≡ cons_option (option_and_then (edge_change rows) o) (filter_map (edge_change_at rows) ps)
         by None is rest = rest
-        by (Some e) is rest =
-            ap (λ (o : Option (EdgeNo × Slot)). cons_option (option_and_then (change_told rows (edge_told rows (placed e.0 p (named e)))) o) (filter_map (placed_change rows) (filter_map (placed_at rows) ps))) is
-            ∙ (λ j. cons_option (change_told rows (told p e is j) e) (rest j))
+        by (Some e) is rest = one (is_affected rows e)
+          where
+            one : (b : Bool) → filter_map (placed_change rows) (cons_option (if b then Some (placed e.0 p (named e)) else None) (filter_map (affected_at rows) ps))
+                ≡ cons_option (if b then Some (change_of rows (named e) e) else None) (filter_map (edge_change_at rows) ps)
+            one false = rest
+            one true =
+                ap (λ (o : Option (EdgeNo × Slot)). cons_option (option_map (change_of rows (edge_told rows (placed e.0 p (named e)))) o) (filter_map (placed_change rows) (filter_map (affected_at rows) ps))) is
+                ∙ (λ j. cons_option (Some (change_of rows (told p e is j) e)) (rest j))
+
+    -- and each of these has one
+    each-changes : (places : List ℕ) → length (filter_map (placed_change rows) (filter_map (affected_at rows) places)) ≡ length (filter_map (affected_at rows) places)
+    each-changes [] = refl
+    each-changes (p ∷ ps) = by (slice_get rows.edges.entries p) refl (each-changes ps)
+      where
+        by : (o : Option (EdgeNo × Slot)) → slice_get rows.edges.entries p ≡ o → length (filter_map (placed_change rows) (filter_map (affected_at rows) ps)) ≡ length (filter_map (affected_at rows) ps)
+            → length (filter_map (placed_change rows) (cons_option (option_and_then (affected_by rows p) o) (filter_map (affected_at rows) ps)))
+            ≡ length (cons_option (option_and_then (affected_by rows p) o) (filter_map (affected_at rows) ps))
+        by None is rest = rest
+        by (Some e) is rest = one (is_affected rows e)
+          where
+            one : (b : Bool) → length (filter_map (placed_change rows) (cons_option (if b then Some (placed e.0 p (named e)) else None) (filter_map (affected_at rows) ps)))
+                ≡ length (cons_option (if b then Some (placed e.0 p (named e)) else None) (filter_map (affected_at rows) ps))
+            one false = rest
+            one true =
+                ap (λ (o : Option (EdgeNo × Slot)). length (cons_option (option_map (change_of rows (edge_told rows (placed e.0 p (named e)))) o) (filter_map (placed_change rows) (filter_map (affected_at rows) ps)))) is
+                ∙ ap suc rest
+
+    pub have-changes : (places : List ℕ) (edges : List PlacedEdge) → IsPermutation (filter_map (affected_at rows) places) edges → HaveChanges rows edges
+    have-changes places edges permuted = record {
+      kept = kept;
+      each =
+          length_permutation (filter_map (placed_change rows) (filter_map (affected_at rows) places)) (filter_map (placed_change rows) edges) (permuted-filter_map (placed_change rows) (filter_map (affected_at rows) places) edges permuted)
+          ∙ each-changes places ∙ sym (length_permutation (filter_map (affected_at rows) places) edges permuted);
+    }
 
     -- the changes of edges in order, where all that are affected are among them
-    pub changes-in-order : (places : List ℕ) → IsDistinct nat_eq places → AreAffected rows places → (edges : List PlacedEdge) → IsPermutation (filter_map (placed_at rows) places) edges
+    pub changes-in-order : (places : List ℕ) → IsDistinct nat_eq places → AreAffected rows places → (edges : List PlacedEdge) → IsPermutation (filter_map (affected_at rows) places) edges
         → IsSortedByKey (edge_told rows) edge_cmp edges → AreEdgeChanges (published_of rows) (contents_of rows) (filter_map (placed_change rows) edges)
     changes-in-order places apart all edges permuted sorted =
         let found = all-edges rows kept places apart all in
         let same : IsPermutation (filter_map (edge_change_at rows) places) (filter_map (placed_change rows) edges) =
         subst (λ (cs : List EdgeChange). IsPermutation cs (filter_map (placed_change rows) edges)) (picks places)
-        (permuted-filter_map (placed_change rows) (filter_map (placed_at rows) places) edges permuted) in
+        (permuted-filter_map (placed_change rows) (filter_map (affected_at rows) places) edges permuted) in
         let up = picked_in_order (edge_told rows) (λ (c : EdgeChange). c.edge) (placed_change rows) edge_total told-change edges sorted in
         let exact = exact_in_order (λ (c : EdgeChange). c.edge) edge_total exact_edges (IsEdgeChange (published_of rows) (contents_of rows)) (filter_map (edge_change_at rows) places) (filter_map (placed_change rows) edges)
         found.exact found.apart same up in

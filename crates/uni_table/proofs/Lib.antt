@@ -32,6 +32,7 @@ mod Leaving
 pub mod Listed
 mod Permuted
 mod PickedInOrder
+mod PickedParts
 mod Placed
 pub mod Published
 mod RankedIn

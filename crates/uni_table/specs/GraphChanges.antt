@@ -117,7 +117,7 @@ is_affected_by slot ranks = is_changed slot || (if is_live slot.state then ranks
 abbrev pub is_affected : Rows → EdgeNo × Slot → Bool
 is_affected rows e = is_affected_by e.1 (ranks_at rows e.0.target)
 
--- what became of an edge by what stands at its place, and that change if it is affected
+-- what became of an edge by what stands at its place, and of the edge that stands there, if it is affected
 abbrev pub change_of : Rows → EdgeRef → EdgeNo × Slot → EdgeChange
 change_of rows edge e = record {
   edge = edge;
@@ -127,11 +127,8 @@ change_of rows edge e = record {
   rank_after = (ranks_at rows e.0.target).after;
 }
 
-abbrev pub change_told : Rows → EdgeRef → EdgeNo × Slot → Option EdgeChange
-change_told rows edge e = if is_affected rows e then Some (change_of rows edge e) else None
-
 abbrev pub edge_change : Rows → EdgeNo × Slot → Option EdgeChange
-edge_change rows e = change_told rows (edge_named (keys_of rows.sources.entries) (keys_of rows.ids.entries) e.0) e
+edge_change rows e = if is_affected rows e then Some (change_of rows (edge_named (keys_of rows.sources.entries) (keys_of rows.ids.entries) e.0) e) else None
 
 -- those of places
 abbrev pub entity_change_at : Rows → ℕ → Option EntityChange

@@ -1,12 +1,13 @@
 -- Edges by their places, with what they are ordered by.
-use Rattle.std.specs.Prelude.{ℕ, List, Option, slice_get}
+use Rattle.std.specs.Prelude.{ℕ, ◌≡◌, List, Option, None, Some, length, slice_get, if◌then◌else◌}
+use Rattle.std.specs.List.{filter_map}
 use Rattle.std.specs.Map.{keys_of}
 use Rattle.std.specs.Option.{option_and_then, option_map, option_map_or}
 use Rattle.uni_base.specs.declared.edge.EdgeRef.{EdgeRef}
 use Rattle.uni_base.specs.declared.edge.Key.{Key}
 use Rattle.uni_base.specs.declared.edge.Key.TheVariants.{Id, Word}
-use Rattle.uni_table.specs.GraphChanges.{change_told}
-use Rattle.uni_table.specs.GraphRows.{edge_named}
+use Rattle.uni_table.specs.GraphChanges.{change_of, is_affected}
+use Rattle.uni_table.specs.GraphRows.{edge_named, IsRows}
 use Rattle.uni_table.specs.declared.change.EdgeChange.{EdgeChange}
 use Rattle.uni_table.specs.declared.graph.numbers.EdgeNo.{EdgeNo}
 use Rattle.uni_table.specs.declared.graph.numbers.Slot.{Slot}
@@ -37,13 +38,21 @@ edge_told rows edge = record { type_no = edge.type_no; key = key_told (keys_of r
 abbrev pub placed : EdgeNo → ℕ → EdgeRef → PlacedEdge
 placed number place edge = record { type_no = edge.type_no; key = short_key number.source edge.key; target = edge.target; place = place }
 
--- the edge at a place
-abbrev pub placed_at : Rows → ℕ → Option PlacedEdge
-placed_at rows place = option_map (λ e. placed e.0 place (edge_named (keys_of rows.sources.entries) (keys_of rows.ids.entries) e.0)) (slice_get rows.edges.entries place)
+-- the edge at a place, if it is affected
+abbrev pub affected_by : Rows → ℕ → EdgeNo × Slot → Option PlacedEdge
+affected_by rows place e = if is_affected rows e then Some (placed e.0 place (edge_named (keys_of rows.sources.entries) (keys_of rows.ids.entries) e.0)) else None
 
--- its change by what stands at its place, if it is affected
+abbrev pub affected_at : Rows → ℕ → Option PlacedEdge
+affected_at rows place = option_and_then (affected_by rows place) (slice_get rows.edges.entries place)
+
+-- what became of it, by what stands at its place
 abbrev pub placed_change : Rows → PlacedEdge → Option EdgeChange
-placed_change rows edge = option_and_then (change_told rows (edge_told rows edge)) (slice_get rows.edges.entries edge.place)
+placed_change rows edge = option_map (change_of rows (edge_told rows edge)) (slice_get rows.edges.entries edge.place)
+
+-- each of some edges has a change
+pub record HaveChanges (rows : Rows) (edges : List PlacedEdge) : Type 0 where
+  pub kept : IsRows rows
+  pub each : length (filter_map (placed_change rows) edges) ≡ length edges
 
 -- what stands there
 abbrev pub standing_at : Rows → PlacedEdge → Option (EdgeNo × Slot)

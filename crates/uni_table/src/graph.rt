@@ -3,6 +3,7 @@ ghost use Rattle.uni_table.specs.Added.{Adds};
 ghost use Rattle.uni_table.specs.Changes.{AreEdgeChanges, HasEntityChanges};
 
 mod batches;
+pub mod changed_edges;
 mod changes;
 mod edges;
 mod ends;
@@ -14,7 +15,8 @@ mod rows;
 mod touched;
 mod walks;
 
-use crate::{EdgeChange, EdgeRow, EntityChange, EntityRow};
+use crate::{EdgeRow, EntityChange, EntityRow};
+use changed_edges::ChangedEdges;
 use rows::Rows;
 use std::alloc::{AllocError, Global};
 use std::marker::Model;
@@ -191,8 +193,8 @@ impl Graph {
 
     /// The edges that differ from what they were then, or lead to an entity with another rank, by type
     /// number, key and target.
-    pub fn edge_changes(&self, alloc: Global) -> Result<Vec<EdgeChange>, AllocError>
-        ensures { IfOk result (λ changes. AreEdgeChanges self.now.published self.now.contents changes.items) }
+    pub fn edge_changes(&self, alloc: Global) -> Result<ChangedEdges<'_>, AllocError>
+        ensures { IfOk result (AreEdgeChanges self.now.published self.now.contents) }
     {
         self.rows.edge_changes(alloc)
     }

@@ -14,5 +14,6 @@ mod tests;
 
 pub use change::{EdgeChange, EdgeChanges, EntityChange, EntityChanges};
 pub use command::{AudienceText, Command, EdgeRow, EntityRow};
+pub use graph::changed_edges::ChangedEdges;
 pub use refusal::FeedRefusal;
 pub use table::Table;

@@ -1,31 +1,18 @@
-//! What differs between what the rows stand for and what they stood for at the last publish.
-ghost use Rattle.std.specs.Prelude.{◌≡◌, ◌++◌, ◌∷◌, [], map, nat_eq, IfOk, OnOk};
+//! Which ids and edges differ from what they were at the last publish, by their places.
+ghost use Rattle.std.specs.Prelude.{◌≡◌, ◌++◌, ◌∷◌, [], nat_eq, IfOk, OnOk};
 ghost use Rattle.std.specs.List.{IsDistinct, filter_map};
-ghost use Rattle.std.specs.Option.{option_map, option_to_list};
-ghost use Rattle.uni_table.specs.Changes.{AreEdgeChanges, HasEntityChanges};
+ghost use Rattle.std.specs.Option.{option_to_list};
+ghost use Rattle.uni_table.specs.Changes.{HasEntityChanges};
 ghost use Rattle.uni_table.specs.GraphChanges.{entity_change_at, is_affected_by, ranks_at, untouched_at, AddsLed, AddsLedBy, AddsMoved, AreAffected};
-ghost use Rattle.uni_table.specs.GraphOrder.{placed_change, standing_at};
 ghost use Rattle.uni_table.specs.GraphRows.{contents_of, published_of, IsRows};
 
-use super::numbers::{EdgeNo, Ranks, Side, Slot};
-use super::order::PlacedEdge;
+use super::numbers::{Ranks, Side, Slot};
 use super::rows::Rows;
-use crate::{EdgeChange, EdgeRow, EntityChange};
+use crate::EntityChange;
 use std::alloc::{AllocError, Global};
-use uni_base::{Audience, EdgeRef};
 
-// The row of an edge with an audience and an end. None where it has none.
-fn row_with(audience: Option<Audience>, end: u64) -> Option<EdgeRow>
-    ensures { result ≡ option_map (λ a. record { audience = a; end = end }) audience }
-{
-    match audience {
-        Some(audience) => Some(EdgeRow { audience, end }),
-        None => None,
-    }
-}
-
-// Whether an edge differs, or lives and leads to an id with other ranks.
-fn is_affected(slot: &Slot, ranks: Ranks) -> bool
+/// Whether an edge differs, or lives and leads to an id with other ranks.
+pub(super) fn is_affected(slot: &Slot, ranks: Ranks) -> bool
     ensures { result ≡ is_affected_by slot.now ranks }
 {
     slot.is_changed() || (slot.state.is_live() && ranks.differ())
@@ -86,8 +73,8 @@ impl Rows {
         self.entity_changes_at(alloc, self.touched_ids.as_slice())
     }
 
-    // The ranks of the id of a number at the last publish and now.
-    fn ranks_at(&self, number: usize) -> Ranks
+    /// The ranks of the id of a number at the last publish and now.
+    pub fn ranks_at(&self, number: usize) -> Ranks
         ensures { result ≡ ranks_at self.now number }
     {
         match self.ids.get_index(number) {
@@ -97,44 +84,6 @@ impl Rows {
                 after: None,
             },
         }
-    }
-
-    // Adds the change of an edge to a list, if it is affected.
-    fn add_edge_change(
-        &self,
-        edge: &PlacedEdge,
-        standing: &Option<(EdgeNo, Slot)>,
-        changes: &mut Vec<EdgeChange>,
-    ) -> Result<(), AllocError>
-        requires kept { IsRows self.now }
-        requires standing { standing.now ≡ standing_at self.now edge.now }
-        ensures { OnOk result (changes.new.items ≡ changes.old.items ++ option_to_list (placed_change self.now edge.now)) }
-    {
-        let Some((number, slot)) = standing else {
-            return Ok(());
-        };
-        let ranks = self.ranks_at(number.target as usize);
-        if !is_affected(slot, ranks) {
-            return Ok(());
-        }
-        let named = self.edge_of(edge);
-        let key = named.key;
-        let edge = EdgeRef {
-            type_no: named.type_no,
-            key,
-            target: named.target,
-        };
-        let (state, end) = slot.stood();
-        let before = self.audience(state);
-        let after = self.audience(slot.state);
-        let change = EdgeChange {
-            edge,
-            before: row_with(before, end),
-            after: row_with(after, slot.end),
-            rank_before: ranks.before,
-            rank_after: ranks.after,
-        };
-        push(changes, change)
     }
 
     // Adds a place to a list, if it is that of an edge that the batch has not touched.
@@ -187,9 +136,9 @@ impl Rows {
         Ok(())
     }
 
-    // The places of all edges that may be affected, each once. Those that the batch touched are listed once
-    // each, so nothing is sorted where no others reach an id with another rank.
-    fn affected(&self, alloc: Global) -> Result<Vec<u32>, AllocError>
+    /// The places of all edges that may be affected, each once. Those that the batch touched are listed once
+    /// each, so nothing is sorted where no others reach an id with another rank.
+    pub fn affected(&self, alloc: Global) -> Result<Vec<u32>, AllocError>
         requires { IsRows self.now }
         ensures apart { IfOk result (λ places. IsDistinct nat_eq places.items) }
         ensures whole { IfOk result (λ places. AreAffected self.now places.items) }
@@ -204,36 +153,5 @@ impl Rows {
         places.sort_unstable();
         places.dedup();
         Ok(places)
-    }
-
-    // The changes of edges in their order, those that are affected.
-    fn edge_changes_at(
-        &self,
-        alloc: Global,
-        edges: &[PlacedEdge],
-        standing: &[Option<(EdgeNo, Slot)>],
-    ) -> Result<Vec<EdgeChange>, AllocError>
-        requires kept { IsRows self.now }
-        requires standing { standing.now ≡ map (standing_at self.now) edges.now }
-        ensures { IfOk result (λ changes. changes.items ≡ filter_map (placed_change self.now) edges.now) }
-    {
-        let mut changes = Vec::with_capacity(alloc, edges.len())?;
-        for i in 0..edges.len() {
-            self.add_edge_change(&edges[i], &standing[i], &mut changes)?;
-        }
-        Ok(changes)
-    }
-
-    /// The changes of the edges that differ, or lead to an id with another rank, by type number, key and
-    /// target. What is sorted are their places, and each change is made once.
-    pub fn edge_changes(&self, alloc: Global) -> Result<Vec<EdgeChange>, AllocError>
-        requires { IsRows self.now }
-        ensures { IfOk result (λ changes. AreEdgeChanges (published_of self.now) (contents_of self.now) changes.items) }
-    {
-        let places = self.affected(alloc)?;
-        let edges = self.placed_edges(alloc, places.as_slice())?;
-        let edges = self.in_order(edges);
-        let standing = self.standing(alloc, edges.as_slice())?;
-        self.edge_changes_at(alloc, edges.as_slice(), standing.as_slice())
     }
 }

@@ -3,11 +3,11 @@ ghost use Rattle.std.specs.Prelude.{◌≡◌, ◌++◌, map, slice_get, IfOk, O
 ghost use Rattle.std.specs.List.{filter_map};
 ghost use Rattle.std.specs.Map.{keys_of};
 ghost use Rattle.std.specs.Option.{option_to_list};
-ghost use Rattle.uni_base.specs.EdgeOrder.{edge_cmp, key_cmp};
-ghost use Rattle.uni_table.specs.GraphOrder.{edge_told, key_told, short_key, placed_at, standing_at};
+ghost use Rattle.uni_base.specs.EdgeOrder.{edge_cmp};
+ghost use Rattle.uni_table.specs.GraphOrder.{edge_told, key_told, short_key, affected_at, standing_at};
 ghost use Rattle.uni_table.specs.GraphRows.{IsRows};
 
-use super::changes::push;
+use super::changes::{is_affected, push};
 use super::numbers::{EdgeNo, Slot};
 use super::rows::Rows;
 use std::alloc::{AllocError, Global};
@@ -24,10 +24,10 @@ pub(crate) enum ShortKey {
 /// The place of an edge, with what the edge is ordered by.
 #[derive(Clone, Copy, Debug)]
 pub(crate) struct PlacedEdge {
-    pub type_no: u16,
     pub key: ShortKey,
     pub target: EntityId,
     pub place: u32,
+    pub type_no: u16,
 }
 
 // The key of a source in few bytes.
@@ -65,25 +65,12 @@ impl Rows {
         }
     }
 
-    // The order of the keys of two edges.
-    fn compare_keys(&self, one: &PlacedEdge, other: &PlacedEdge) -> Ordering
-        ensures { result ≡ key_cmp (key_told (keys_of self.now.sources.entries) one.now) (key_told (keys_of self.now.sources.entries) other.now) }
-    {
-        match one.key {
-            ShortKey::Id(id) => match other.key {
-                ShortKey::Id(of) => id.get().cmp(&of.get()),
-                ShortKey::Word(_) => self.key_of(one).cmp(&self.key_of(other)),
-            },
-            ShortKey::Word(_) => self.key_of(one).cmp(&self.key_of(other)),
-        }
-    }
-
-    // The order of two edges.
-    fn compare(&self, one: &PlacedEdge, other: &PlacedEdge) -> Ordering
+    // The order of two edges whose keys are no ids, or not both.
+    fn compare_told(&self, one: &PlacedEdge, other: &PlacedEdge) -> Ordering
         ensures { result ≡ edge_cmp (edge_told self.now one.now) (edge_told self.now other.now) }
     {
         match one.type_no.cmp(&other.type_no) {
-            Ordering::Equal => match self.compare_keys(one, other) {
+            Ordering::Equal => match self.key_of(one).cmp(&self.key_of(other)) {
                 Ordering::Equal => one.target.cmp(&other.target),
                 unequal => unequal,
             },
@@ -91,34 +78,58 @@ impl Rows {
         }
     }
 
-    // Adds the edge at a place to a list, if there is one.
-    fn add_placed_edge(&self, place: u32, edges: &mut Vec<PlacedEdge>) -> Result<(), AllocError>
-        requires { IsRows self.now }
-        ensures { OnOk result (edges.new.items ≡ edges.old.items ++ option_to_list (placed_at self.now place)) }
+    // The order of two edges. That of two with ids is told of their numbers without a branch.
+    fn compare(&self, one: &PlacedEdge, other: &PlacedEdge) -> Ordering
+        ensures { result ≡ edge_cmp (edge_told self.now one.now) (edge_told self.now other.now) }
     {
-        let Some((number, _)) = self.edges.get_index(place as usize) else {
+        match one.key {
+            ShortKey::Id(id) => match other.key {
+                ShortKey::Id(of) => one
+                    .type_no
+                    .cmp(&other.type_no)
+                    .then(id.get().cmp(&of.get()))
+                    .then(one.target.get().cmp(&other.target.get())),
+                ShortKey::Word(_) => self.compare_told(one, other),
+            },
+            ShortKey::Word(_) => self.compare_told(one, other),
+        }
+    }
+
+    // Adds the edge at a place to a list, if there is one that is affected.
+    fn add_affected_edge(&self, place: u32, edges: &mut Vec<PlacedEdge>) -> Result<(), AllocError>
+        requires { IsRows self.now }
+        ensures { OnOk result (edges.new.items ≡ edges.old.items ++ option_to_list (affected_at self.now place)) }
+    {
+        let Some((number, slot)) = self.edges.get_index(place as usize) else {
             return Ok(());
         };
+        if !is_affected(slot, self.ranks_at(number.target as usize)) {
+            return Ok(());
+        }
         let named = self.edge_ref(*number);
         let key = short_key(&named.key, number.source);
         let edge = PlacedEdge {
-            type_no: named.type_no,
             key,
             target: named.target,
             place,
+            type_no: named.type_no,
         };
         push(edges, edge)
     }
 
-    /// The edges at places, with what they are ordered by.
-    pub fn placed_edges(&self, alloc: Global, places: &[u32]) -> Result<Vec<PlacedEdge>, AllocError>
+    /// The edges at places that are affected, with what they are ordered by.
+    pub fn affected_edges(
+        &self,
+        alloc: Global,
+        places: &[u32],
+    ) -> Result<Vec<PlacedEdge>, AllocError>
         requires { IsRows self.now }
-        ensures { IfOk result (λ edges. edges.items ≡ filter_map (placed_at self.now) places.now) }
+        ensures { IfOk result (λ edges. edges.items ≡ filter_map (affected_at self.now) places.now) }
     {
         let mut edges = Vec::with_capacity(alloc, places.len())?;
         for place in places {
             let place = *place;
-            self.add_placed_edge(place, &mut edges)?;
+            self.add_affected_edge(place, &mut edges)?;
         }
         Ok(edges)
     }

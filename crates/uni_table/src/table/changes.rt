@@ -1,7 +1,7 @@
 ghost use Rattle.std.specs.Prelude.{IfOk, IsPermutation, IsSortedByKey};
 ghost use Rattle.std.specs.Ordering.{nat_cmp};
 
-use crate::{EdgeChanges, EntityChange, EntityChanges, Table};
+use crate::{ChangedEdges, EntityChange, EntityChanges, Table};
 use std::alloc::AllocError;
 
 impl Table {
@@ -18,12 +18,11 @@ impl Table {
 
     /// The edges that differ from what they were as the last batch ended, and those whose target has another
     /// rank, by type number, key and target. It costs the rows that the batch touched, the edges that reach
-    /// an entity with another rank, and a sort.
-    pub fn changed_edges(&self) -> Result<EdgeChanges, AllocError>
+    /// an entity with another rank, and a sort; each change is made as it is asked for.
+    pub fn changed_edges(&self) -> Result<ChangedEdges<'_>, AllocError>
         ensures { IfOk result (AreEdgeChanges self.now.published self.now.contents) }
     {
-        let changes = self.graph.edge_changes(self.alloc)?;
-        Ok(EdgeChanges::from_vec(changes))
+        self.graph.edge_changes(self.alloc)
     }
 }
 

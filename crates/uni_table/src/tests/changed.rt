@@ -62,7 +62,8 @@ pub(super) fn has_entity_changes(table: &Table, texts: &[u8]) -> Option<bool> {
 // Whether the edges that the batch changed, or the rank of whose target it changed, are some in order,
 // which commas part.
 pub(super) fn has_edge_changes(table: &Table, texts: &[u8]) -> Option<bool> {
-    let changes = table.changed_edges().ok()?;
+    let changed = table.changed_edges().ok()?;
+    let changes = changed.part(0, changed.len()).ok()?;
     let mut rest = texts;
     for change in changes.as_slice() {
         let (text, others) = part(rest, b',');

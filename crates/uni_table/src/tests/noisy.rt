@@ -234,7 +234,8 @@ fn place_after(
 // Whether the edges that a table lists are those that differ from another table's or lead to an id with
 // another rank, by type number, key and target.
 fn are_edges(before: &Table, table: &Table) -> Option<bool> {
-    let changes = table.changed_edges().ok()?;
+    let changed = table.changed_edges().ok()?;
+    let changes = changed.part(0, changed.len()).ok()?;
     let mut at = 0;
     for type_no in TYPES {
         for number in 1..=IDS {

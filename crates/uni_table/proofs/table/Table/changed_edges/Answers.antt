@@ -1,11 +1,8 @@
-use Rattle.std.proofs.Common.{List, subst, sym}
+use Rattle.std.proofs.Common.{subst}
+use Rattle.std.proofs.lemmas.Result.{IfOk-weaker}
 use Rattle.uni_table.specs.Changes.{AreEdgeChanges}
 use Rattle.uni_table.specs.TableState.{TableState}
-use Rattle.uni_table.specs.declared.change.EdgeChange.{EdgeChange}
 use Rattle.uni_table.proofs.table.Table.changed_edges.Goals as goal
 
 pub returns : goal.returns
-returns c =
-    let graph = c.self.inside.graph in
-    subst (λ (t : TableState). AreEdgeChanges t.published t.contents c.from_vec.result) c.self.view_is
-    (subst (λ (changes : List EdgeChange). AreEdgeChanges graph.published graph.contents changes) (sym c.from_vec.ensures) c.in_ok-changes.ensures)
+returns c = IfOk-weaker c.edge_changes.result _ _ (λ changes are. subst (λ (t : TableState). AreEdgeChanges t.published t.contents changes) c.self.view_is are) c.edge_changes.ensures

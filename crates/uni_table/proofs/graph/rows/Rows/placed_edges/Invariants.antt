@@ -1,7 +1,0 @@
-use Rattle.std.proofs.Common.{◌≡◌, take}
-use Rattle.std.specs.List.{filter_map}
-use Rattle.uni_table.specs.GraphOrder.{placed_at}
-use Rattle.uni_table.proofs.graph.rows.Rows.placed_edges.Given as goal
-
-abbrev pub invariant-loop-place : goal.invariant-loop-place
-invariant-loop-place l = l.edges.items ≡ filter_map (placed_at l.self) (take l.place-index l.places)
