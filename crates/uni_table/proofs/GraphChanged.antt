@@ -37,7 +37,7 @@ use Rattle.uni_table.specs.declared.graph.numbers.SlotState.{SlotState}
 use Rattle.uni_table.specs.declared.graph.numbers.SlotState.TheVariants.{Gone, Public, Only, Circle}
 use Rattle.uni_table.specs.declared.graph.rows.Rows.{Rows}
 use Rattle.uni_table.proofs.GraphEdges.{edge-found, edge-missing, slot-at}
-use Rattle.uni_table.proofs.GraphEntities.{entity-found}
+use Rattle.uni_table.proofs.GraphEntities.{entity-found, entity-there}
 use Rattle.uni_table.proofs.GraphLed.{affected-cases}
 use Rattle.uni_table.proofs.GraphNames.{same-place, source_equiv}
 use Rattle.uni_table.proofs.GraphPlaces.{entry-at, key-at, same-number}
@@ -181,7 +181,7 @@ module _ (rows : Rows) (kept : IsRows rows) where
     found = lookup_from_place nat_equiv rows.ids.entries i id node kept.ids at
 
     entity-now : entity_at (contents_of rows) id ≡ node.row
-    entity-now = entity-found rows kept id ∙ ap (λ o. joined (option_map (λ n. n.row) o)) found
+    entity-now = entity-there rows kept i id node at
 
     entity-before : entity_at (published_of rows) id ≡ entity_before node
     entity-before = found-then id ∙ ap (λ o. joined (option_map (λ n. entity_before n) o)) found

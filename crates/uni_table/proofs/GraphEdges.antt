@@ -1,5 +1,5 @@
 -- Edges by place: look-ups, and the rows after one of them is written.
-use Rattle.std.proofs.Common.{◌≡◌, ◌≤◌, ◌<◌, ◌+◌, ◌^◌, ℕ, Bool, true, false, if◌then◌else◌, List, [], ◌∷◌, ◌++◌, Option, None, Some, refl, sym, ◌∙◌, ap, subst, length, map, take, slice_get, arith}
+use Rattle.std.proofs.Common.{◌≡◌, ◌≤◌, ◌<◌, ◌+◌, ◌^◌, ℕ, Bool, true, false, if◌then◌else◌, List, [], ◌∷◌, ◌++◌, Option, None, Some, refl, sym, ◌∙◌, ap, subst, length, map, take, slice_get, is_some, arith}
 use Rattle.std.specs.BTreeSet.{contains}
 use Rattle.std.specs.List.{IsDistinct}
 use Rattle.std.specs.Map.{keys_of}
@@ -26,6 +26,7 @@ use Rattle.uni_table.specs.declared.command.EdgeRow.{EdgeRow}
 use Rattle.uni_table.specs.declared.graph.numbers.EdgeNo.{EdgeNo}
 use Rattle.uni_table.specs.declared.graph.numbers.Slot.{Slot}
 use Rattle.uni_table.specs.declared.graph.numbers.SlotState.{SlotState}
+use Rattle.uni_table.specs.declared.graph.numbers.Source.{Source}
 use Rattle.uni_table.specs.declared.graph.numbers.SlotState.TheVariants.{Gone, Public, Only, Circle}
 use Rattle.uni_table.specs.declared.graph.numbers.Side.{Side}
 use Rattle.uni_table.specs.declared.graph.numbers.Side.TheVariants.{Target, Source as From}
@@ -230,14 +231,16 @@ module _ (old new : Rows) (kept : IsRows old) where
     ids = longer-refl (keys_of old.ids.entries);
   }
 
+-- a row stands for an edge exactly where that is not gone
+pub row-lives : (sources : List Source) (state : SlotState) (end : ℕ) → is_some (row_of sources state end) ≡ is_live state
+row-lives sources Gone end = refl
+row-lives sources Public end = refl
+row-lives sources Only end = refl
+row-lives sources (Circle n) end = refl
+
 -- the count is that of the contents' edges
 pub edges-counted : (rows : Rows) → IsRows rows → rows.edge_count ≡ length (contents_of rows).edges
 edges-counted rows kept =
     kept.edge_count
-    ∙ sym (Rattle.chained_rows.proofs.Counted.length-ordered (λ s. is_live s.state) edge_total (slot_named (keys_of rows.sources.entries) (keys_of rows.ids.entries)) (λ e. by e.1.state e.1.end) rows.edges.entries kept.edges)
-  where
-    by : (state : SlotState) (end : ℕ) → Rattle.std.proofs.Common.is_some (row_of (keys_of rows.sources.entries) state end) ≡ is_live state
-    by Gone end = refl
-    by Public end = refl
-    by Only end = refl
-    by (Circle n) end = refl
+    ∙ sym (Rattle.chained_rows.proofs.Counted.length-ordered (λ s. is_live s.state) edge_total (slot_named (keys_of rows.sources.entries) (keys_of rows.ids.entries))
+    (λ e. row-lives (keys_of rows.sources.entries) e.1.state e.1.end) rows.edges.entries kept.edges)

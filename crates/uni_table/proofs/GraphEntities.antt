@@ -6,7 +6,9 @@ use Rattle.std.specs.BTreeMap.{is_at}
 use Rattle.std.specs.Cmp.{nat_cmp_total}
 use Rattle.std.specs.Option.{option_map, option_map_or}
 use Rattle.std.specs.Ordering.{nat_cmp, eq_by_cmp}
+use Rattle.std.proofs.lemmas.Cmp.{nat_eq_equiv}
 use Rattle.std.proofs.lemmas.Map.{NonePasses}
+use Rattle.std.proofs.lemmas.Map.Entries.{lookup_from_place}
 use Rattle.std.proofs.lemmas.Map.Made.{lookup-map_values, keys_of-map_values}
 use Rattle.std.proofs.lemmas.Map.Lookups.{exact_unsigned}
 use Rattle.std.proofs.lemmas.Option.{slice_get-map}
@@ -25,7 +27,7 @@ use Rattle.uni_table.specs.declared.graph.numbers.Node.{Node}
 use Rattle.uni_table.specs.declared.graph.numbers.Side.{Side}
 use Rattle.uni_table.specs.declared.graph.numbers.Side.TheVariants.{Target, Source as From}
 use Rattle.uni_table.specs.declared.graph.rows.Rows.{Rows}
-use Rattle.uni_table.proofs.GraphPlaces.{read-written, remove-none}
+use Rattle.uni_table.proofs.GraphPlaces.{index-none, read-written, remove-none}
 use Rattle.uni_table.proofs.Published.{nodes-then, entity-touched}
 use Rattle.uni_table.proofs.TouchedRows.{agree, touched-again, touched-first}
 
@@ -37,6 +39,27 @@ pub entity-found : (rows : Rows) → IsRows rows → (id : ℕ) → entity_at (c
 entity-found rows kept id =
     lookup-ordered nat_cmp_total id (map node_named rows.ids.entries) (ids-distinct rows.ids.entries kept.ids)
     ∙ ap joined (lookup-map_values (λ n. n.row) (is_at (nat_cmp id)) rows.ids.entries ∙ ap (λ test. option_map (λ n. n.row) (lookup test rows.ids.entries)) (ap (λ eq. eq id) agree))
+
+-- so does one by its number
+pub entity-there : (rows : Rows) → IsRows rows → (i id : ℕ) (node : Node) → slice_get rows.ids.entries i ≡ Some (id, node) → entity_at (contents_of rows) id ≡ node.row
+entity-there rows kept i id node at = entity-found rows kept id ∙ ap (λ o. joined (option_map (λ n. n.row) o)) (lookup_from_place nat_eq_equiv rows.ids.entries i id node kept.ids at)
+
+pub entity-numbered : (rows : Rows) → IsRows rows → (i id : ℕ) → slice_get (keys_of rows.ids.entries) i ≡ Some id → option_map_or (λ e. e.1.row) (slice_get rows.ids.entries i) None ≡ entity_at (contents_of rows) id
+entity-numbered rows kept i id at = by (slice_get rows.ids.entries i) refl
+  where
+    keyed : option_map (λ (e : ℕ × Node). e.0) (slice_get rows.ids.entries i) ≡ Some id
+    keyed = sym (slice_get-map (λ (e : ℕ × Node). e.0) rows.ids.entries i) ∙ at
+
+    by : (o : Option (ℕ × Node)) → slice_get rows.ids.entries i ≡ o → option_map_or (λ e. e.1.row) o None ≡ entity_at (contents_of rows) id
+    by None is = let none : None ≡ Some id = sym (ap (option_map (λ (e : ℕ × Node). e.0)) is) ∙ keyed in cc
+    by (Some e) is =
+        let found : Some e.0 ≡ Some id = sym (ap (option_map (λ (x : ℕ × Node). x.0)) is) ∙ keyed in
+        let same : e.0 ≡ id = cc in
+        sym (subst (λ n. entity_at (contents_of rows) n ≡ e.1.row) same (entity-there rows kept i e.0 e.1 is))
+
+-- and finds none where there is no number
+pub entity-nowhere : (rows : Rows) → IsRows rows → (id : ℕ) → AllByRecursion (λ x. nat_eq id x ≡ false) (keys_of rows.ids.entries) → entity_at (contents_of rows) id ≡ None
+entity-nowhere rows kept id none = entity-found rows kept id ∙ ap (λ o. joined (option_map (λ n. n.row) o)) (index-none (nat_eq id) rows.ids.entries none)
 
 -- an id that never was there is no entity
 pub entity-missing : (rows : Rows) → IsRows rows → (id : ℕ) → AllByRecursion (λ x. nat_eq id x ≡ false) (keys_of rows.ids.entries) → without_row (contents_of rows) id ≡ contents_of rows

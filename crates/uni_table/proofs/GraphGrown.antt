@@ -2,10 +2,12 @@
 use Rattle.std.proofs.Common.{◌≡◌, ◌≤◌, ◌<◌, ◌+◌, ◌^◌, inl, inr, ℕ, zero, suc, Bool, true, false, List, [], ◌∷◌, ◌++◌, Option, None, Some, refl, sym, ◌∙◌, ap, subst, length, map, take, slice_get, get_or, nat_eq, is_some, arith, length-append}
 use Rattle.std.specs.BTreeSet.{contains}
 use Rattle.std.specs.List.{IsDistinct}
+use Rattle.std.specs.BTreeMap.{is_at}
 use Rattle.std.specs.Map.{keys_of}
 use Rattle.std.specs.Option.{option_map, option_map_or}
 use Rattle.std.specs.Ordering.{nat_cmp, eq_by_cmp}
 use Rattle.std.proofs.lemmas.List.{map_push}
+use Rattle.std.proofs.lemmas.Map.{NonePasses}
 use Rattle.std.proofs.lemmas.Map.Entries.{length-keys_of}
 use Rattle.std.proofs.lemmas.Option.{slice_get-get_or, get_or_from_slice_get}
 use Rattle.chained_rows.specs.Chains.{AtEach, last_no}
@@ -16,8 +18,9 @@ use Rattle.chained_rows.proofs.Ordered.{ordered-push_none}
 use Rattle.chained_rows.proofs.Places.{slice_get-before, map-agree}
 use Rattle.std.specs.Cmp.{nat_cmp_total}
 use Rattle.uni_base.specs.EdgeOrder.{edge_cmp}
+use Rattle.uni_base.specs.declared.edge.EdgeRef.{EdgeRef}
 use Rattle.uni_table.specs.GraphKeys.{source_eq}
-use Rattle.uni_table.specs.GraphRows.{Grows, IsRows, IsKnown, IsCircleKnown, IsBeforeKnown, IsQuiet, AreTouched, slot_before, node_before, entity_before, row_before, row_of, is_same, is_same_entity, source_named, audience_named, slot_named, slots_named, node_named, edge_named, circle_named, last_at, next_at, no_at, has_at, is_entity, is_live, end_cmp}
+use Rattle.uni_table.specs.GraphRows.{Grows, IsRows, IsKnown, IsCircleKnown, IsBeforeKnown, IsQuiet, IsPlaceOf, AreTouched, slot_before, node_before, entity_before, row_before, row_of, is_same, is_same_entity, source_named, audience_named, slot_named, slots_named, node_named, edge_named, circle_named, last_at, next_at, no_at, has_at, is_entity, is_live, end_cmp}
 use Rattle.uni_table.specs.declared.graph.numbers.Source.{Source}
 use Rattle.uni_table.specs.declared.graph.numbers.Node.{Node}
 use Rattle.uni_table.specs.declared.graph.numbers.EdgeNo.{EdgeNo}
@@ -219,3 +222,13 @@ quiet-trans a b c p q = record {
 
 pub quiet-refl : (rows : Rows) → IsRows rows → IsQuiet rows rows
 quiet-refl rows kept = record { kept = kept; same = refl; published = refl; edges = refl; sources = longer-refl (keys_of rows.sources.entries); ids = longer-refl (keys_of rows.ids.entries) }
+
+-- an edge stands where it stood
+pub quiet-place : (old new : Rows) → IsRows old → IsQuiet old new → (edge : EdgeRef) (place : Option ℕ) → IsPlaceOf old edge place → IsPlaceOf new edge place
+quiet-place old new kept quiet edge None none = subst (NonePasses (is_at (edge_cmp edge))) (sym (slots-same old new kept quiet.sources quiet.ids quiet.edges)) none
+quiet-place old new kept quiet edge (Some i) (e, at, is) =
+    let known = known-keys old.sources.entries old.ids.entries e (kept.known i e at) in (
+      e,
+      ap (λ es. slice_get es i) quiet.edges ∙ at,
+      edge-same (keys_of old.sources.entries) (keys_of new.sources.entries) (keys_of old.ids.entries) (keys_of new.ids.entries) quiet.sources quiet.ids e.0 known.source known.target ∙ is,
+    )

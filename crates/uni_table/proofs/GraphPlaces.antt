@@ -1,13 +1,14 @@
 -- Keys and entries at places.
-use Rattle.std.proofs.Common.{◌≡◌, ℕ, zero, suc, Bool, true, false, List, [], ◌∷◌, ◌++◌, None, Some, cond, refl, sym, ◌∙◌, ap, subst, length, map, slice_get, ◌<◌, nat_eq, if◌then◌else◌, arith}
+use Rattle.std.proofs.Common.{◌≡◌, ◌^◌, ℕ, zero, suc, Bool, true, false, List, [], ◌∷◌, ◌++◌, None, Some, cond, refl, sym, ◌∙◌, ap, subst, length, map, slice_get, ◌<◌, nat_eq, if◌then◌else◌, arith}
 use Rattle.std.proofs.lemmas.Bool.Decides.{nat_tests}
 use Rattle.std.specs.List.{AllByRecursion}
 use Rattle.std.specs.Map.{keys_of, lookup, lookup_key, remove_entry}
 use Rattle.std.specs.Option.{option_map, option_map_or}
-use Rattle.std.proofs.lemmas.Map.{NonePasses, none_passes_from_lookup}
+use Rattle.std.proofs.lemmas.Map.{NonePasses, lookup-none, none_passes_from_lookup}
+use Rattle.std.proofs.lemmas.Map.Entries.{length-keys_of}
 use Rattle.std.proofs.lemmas.Map.Made.{lookup_key_passes}
 use Rattle.indexmap.specs.Layout.{set_value_at}
-use Rattle.std.proofs.lemmas.Option.{slice_get-map}
+use Rattle.std.proofs.lemmas.Option.{slice_get-map, slice_get_within}
 use Rattle.chained_rows.proofs.Places.{slice_get-push}
 
 module _ {K V : Type 0} where
@@ -31,6 +32,18 @@ index-missing {K} {V} test es none = by es (none_passes_from_lookup test es none
     by : (fs : List (K × V)) → NonePasses test fs → AllByRecursion (λ x. test x ≡ false) (keys_of fs)
     by [] h = tt
     by (f ∷ fs) h = (h.0, by fs h.1)
+
+-- so a look-up finds none
+pub index-none : {K V : Type 0} (test : K → Bool) (es : List (K × V)) → AllByRecursion (λ x. test x ≡ false) (keys_of es) → lookup test es ≡ None
+index-none {K} {V} test es all = lookup-none test es (by es all)
+  where
+    by : (fs : List (K × V)) → AllByRecursion (λ x. test x ≡ false) (keys_of fs) → NonePasses test fs
+    by [] h = tt
+    by (f ∷ fs) h = (h.0, by fs h.1)
+
+-- the number of a key of few
+pub number-few : {K V : Type 0} (es : List (K × V)) (i : ℕ) (k : K) → slice_get (keys_of es) i ≡ Some k → length es < 2 ^ 32 → i < 2 ^ 32
+number-few es i k at few = omega (arith, slice_get_within (keys_of es) i k at, length-keys_of es, few)
 
 -- what is read of an entry, after a write that keeps it
 pub read-written : {K V : Type 0} (f : K × V → ℕ) (es : List (K × V)) (i : ℕ) (w : V) → ((e : K × V) → slice_get es i ≡ Some e → f (e.0, w) ≡ f e) → (q : ℕ)

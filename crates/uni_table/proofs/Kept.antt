@@ -1,11 +1,13 @@
 -- What a table keeps, from command to command and from publish to publish.
-use Rattle.std.proofs.Common.{◌≡◌, ◌≤◌, ◌<◌, ◌+◌, ℕ, Bool, true, false, None, Some, cond, refl, sym, subst, ◌∙◌, ap, rules, arith, not, length, filter, nat_lt, if◌then◌else◌}
+use Rattle.std.proofs.Common.{◌≡◌, ◌≤◌, ◌<◌, ◌+◌, ℕ, Bool, true, false, Option, None, Some, cond, refl, sym, subst, ◌∙◌, ap, rules, arith, not, length, filter, nat_lt, if◌then◌else◌}
 use Rattle.std.proofs.lemmas.Bool.{not-true}
 use Rattle.std.specs.Cmp.{IsTotalOrder, nat_cmp_total}
 use Rattle.std.specs.Cmp.Rules.{comparing}
-use Rattle.std.specs.Option.{option_map_or}
+use Rattle.std.specs.Option.{option_map_or, option_or}
+use Rattle.std.specs.Prelude.{Result, Ok, Err, OnOk, OnErr}
 use Rattle.std.specs.Ordering.{nat_cmp, on, then_cmp}
 use Rattle.std.specs.BTreeMap.{is_at}
+use Rattle.uni_base.specs.declared.edge.Audience.{Audience}
 use Rattle.uni_base.specs.declared.edge.EdgeRef.{EdgeRef}
 use Rattle.uni_base.specs.declared.edge.Key.{Key}
 use Rattle.uni_base.specs.declared.entity.Rank.{Rank}
@@ -15,10 +17,12 @@ use Rattle.uni_schema.specs.Schema.{Declarations, type_at, is_index}
 use Rattle.uni_schema.specs.declared.schema.TypeDef.{TypeDef}
 use Rattle.uni_table.specs.declared.command.EdgeRow.{EdgeRow}
 use Rattle.uni_table.specs.declared.command.EntityRow.{EntityRow}
+use Rattle.uni_table.specs.declared.refusal.FeedRefusal.{FeedRefusal}
 use Rattle.uni_table.specs.declared.refusal.FeedRefusal.TheVariants.{ForwardFull, TableFull}
-use Rattle.uni_table.specs.Commands.{refuses_entity, refuses_ends, refuses_new_edge}
+use Rattle.uni_table.specs.Commands.{next_edge, refuses_edge, refuses_entity, refuses_ends, refuses_new_edge}
 use Rattle.uni_table.specs.Contents.{Contents, empty, has_edge, starts_at, count_from, key_stands, target_stands, with_entity, with_edge, without_edge}
-use Rattle.uni_table.specs.TableState.{IsKept, is_forward}
+use Rattle.uni_table.specs.GraphState.{GraphState}
+use Rattle.uni_table.specs.TableState.{AreKept, IsKept, is_forward}
 use Rattle.uni_table.proofs.Compared.{below_from}
 use Rattle.uni_table.proofs.Entries.{sorted-filter, sorted-remove_entry, list_all-remove_entry, list_all-left, count-remove_entry, count-filter, count-insert_entry, count-put_again}
 use Rattle.uni_table.proofs.Keys.{starts_from}
@@ -119,6 +123,26 @@ module _ (schema : Declarations) (limits : Limits) (table : Contents) (kept : Is
           edges = sorted-insert_entry edge_total edge row table.edges kept.edges;
           forward = forward_fits;
         }
+
+-- so is the table with an edge and its audience, where no reason refuses them
+put_keeps : (schema : Declarations) (limits : Limits) (table : Contents) → IsKept schema limits table → (type_def : TypeDef) (edge : EdgeRef) → type_at schema edge.type_no ≡ Some type_def
+    → (audience : Option Audience) (end : ℕ) → refuses_edge limits table type_def edge audience ≡ None → IsKept schema limits (next_edge table end (Some edge) audience)
+put_keeps schema limits table kept type_def edge declared None end taken = kept
+put_keeps schema limits table kept type_def edge declared (Some audience) end taken =
+    let both = neither (refuses_ends table type_def edge) (refuses_new_edge limits table type_def edge) taken in
+    edge_keeps schema limits table kept type_def edge (record { audience = audience; end = end }) declared both.0 both.1
+  where
+    neither : (a b : Option FeedRefusal) → option_or a b ≡ None → (a ≡ None) × (b ≡ None)
+    neither None b is = (refl, is)
+    neither (Some r) b is = cc
+
+-- and the graph after it was to be put, whether it was refused or not
+pub put_kept : {T E : Type 0} (schema : Declarations) (limits : Limits) (old new : GraphState) → AreKept schema limits old → (type_def : TypeDef) (edge : EdgeRef) → type_at schema edge.type_no ≡ Some type_def
+    → (audience : Option Audience) (end : ℕ) (r : Result T E) → OnOk r (refuses_edge limits old.contents type_def edge audience ≡ None)
+    → OnOk r (new ≡ record old { contents = next_edge old.contents end (Some edge) audience }) → OnErr r (new ≡ old) → AreKept schema limits new
+put_kept schema limits old new kept type_def edge declared audience end (Ok u) taken put same =
+    subst (AreKept schema limits) (sym put) (record { contents = put_keeps schema limits old.contents kept.contents type_def edge declared audience end taken; published = kept.published })
+put_kept schema limits old new kept type_def edge declared audience end (Err e) taken put same = subst (AreKept schema limits) (sym same) kept
 
 pub nothing_kept : (schema : Declarations) (limits : Limits) → IsKept schema limits empty
 nothing_kept schema limits = record { keys = refl; targets = refl; entities = sorted_nil nat_cmp; edges = sorted_nil edge_cmp; forward = λ number key is. omega arith }

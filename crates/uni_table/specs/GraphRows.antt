@@ -25,6 +25,7 @@ use Rattle.uni_table.specs.Ranked.{doc_of, is_of_shard}
 use Rattle.uni_table.specs.declared.command.EntityRow.{EntityRow}
 use Rattle.uni_table.specs.declared.command.EdgeRow.{EdgeRow}
 use Rattle.uni_table.specs.declared.graph.Ending.{Ending}
+use Rattle.uni_table.specs.declared.graph.found.FoundEdge.{FoundEdge}
 use Rattle.uni_table.specs.declared.graph.numbers.Source.{Source}
 use Rattle.uni_table.specs.declared.graph.numbers.Node.{Node}
 use Rattle.uni_table.specs.declared.graph.numbers.EdgeNo.{EdgeNo}
@@ -333,3 +334,9 @@ IsFirstEnded rows publish (Some n) = (end : ℕ) × (slice_get rows.ends.keys 0 
 -- the place in rank order of an id, if it is an entity of a shard of a vertical
 abbrev pub member_of : Declarations → ℕ → ℕ → ℕ × Option EntityRow → Option DocKey
 member_of schema vertical shard e = option_map doc_of (living (kept_if (is_of_shard schema vertical shard) e))
+
+-- what there is of an edge that was looked for: the numbers of its ends, and its place
+pub record IsFound (rows : Rows) (found : FoundEdge) : Type 0 where
+  pub source : IsIndexOf source_eq (keys_of rows.sources.entries) (record { type_no = found.edge.now.type_no; key = found.edge.now.key }) found.source
+  pub target : IsIndexOf nat_eq (keys_of rows.ids.entries) found.edge.now.target found.target
+  pub place : IsPlaceOf rows found.edge.now found.place

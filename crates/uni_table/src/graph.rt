@@ -1,4 +1,4 @@
-ghost use Rattle.std.specs.Prelude.{◌≡◌, ◌<◌, ◌==◌, ◌&&◌, not, length, map, filter, IfOk, OnOk, OnErr, IsPermutation};
+ghost use Rattle.std.specs.Prelude.{◌≡◌, ◌<◌, ◌⊎◌, ◌==◌, ◌&&◌, not, None, Some, length, map, filter, IfOk, IfErr, OnOk, OnErr, IsPermutation};
 ghost use Rattle.uni_table.specs.Added.{Adds};
 ghost use Rattle.uni_table.specs.Changes.{AreEdgeChanges, HasEntityChanges};
 
@@ -8,20 +8,22 @@ mod changes;
 mod edges;
 mod ends;
 mod entities;
+mod found;
 mod lists;
 mod numbers;
 mod order;
+mod refuses;
 mod rows;
 mod touched;
 mod walks;
 
-use crate::{EdgeRow, EntityChange, EntityRow};
+use crate::{EdgeRow, EntityChange, EntityRow, FeedRefusal};
 use changed_edges::ChangedEdges;
 use rows::Rows;
 use std::alloc::{AllocError, Global};
 use std::marker::Model;
-use uni_base::{DocKey, EdgeRef, EntityId, Held, Key};
-use uni_schema::Schema;
+use uni_base::{Audience, DocKey, EdgeRef, EntityId, Held, Key, Limits};
+use uni_schema::{Schema, TypeDef};
 
 /// Entities by id and edges by type, key and target, with the edges of each type and key, those that
 /// reach each id, and those that end. Contracts see both as ordered maps, as they are and as they were when
@@ -50,7 +52,8 @@ pub(crate) struct Ending {
 }
 
 impl Graph {
-    ghost use Rattle.uni_table.specs.Contents.{empty, entity_at, edge_at, count_from, starts_at, reaches, has_ended, with_entity, without_row, with_edge, without_edge, without_from, without_into, ended};
+    ghost use Rattle.uni_table.specs.Commands.{next_edge, refuses_edge};
+    ghost use Rattle.uni_table.specs.Contents.{empty, entity_at, edge_at, starts_at, reaches, has_ended, with_entity, without_row, without_edge, without_from, without_into, ended};
     ghost use Rattle.uni_table.specs.Lists.{held_of, ending_of};
     ghost use Rattle.uni_table.specs.Ranked.{doc_of, is_of_shard};
 
@@ -88,14 +91,7 @@ impl Graph {
     pub fn edges(&self) -> u64
         ensures { result ≡ length self.now.contents.edges }
     {
-        self.rows.edge_count
-    }
-
-    /// How many edges of a type and key there are.
-    pub fn count_from(&self, type_no: u16, key: &Key) -> u64
-        ensures { result ≡ count_from self.now.contents type_no key.now }
-    {
-        self.rows.count_from(type_no, key)
+        self.rows.count_edges()
     }
 
     /// Puts an entity, or another row in place of the one that it has.
@@ -106,12 +102,23 @@ impl Graph {
         self.rows.put_entity(id, row)
     }
 
-    /// Puts an edge, or another row in place of the one that it has.
-    pub fn put_edge(&mut self, edge: &EdgeRef, row: EdgeRow) -> Result<(), AllocError>
-        ensures ok { OnOk result (self.new ≡ record self.old { contents = with_edge self.old.contents edge.now row }) }
+    /// Puts an edge of a type, or another row in place of the one that it has, or says why not. The edge and
+    /// its two ends are looked for once.
+    pub fn put_edge(
+        &mut self,
+        limits: &Limits,
+        type_def: &TypeDef,
+        edge: &EdgeRef,
+        audience: &Option<Audience>,
+        end: u64,
+    ) -> Result<(), FeedRefusal>
+        ensures taken { OnOk result (refuses_edge limits.now self.old.contents type_def.now edge.now audience.now ≡ None) }
+        ensures ok { OnOk result (self.new ≡ record self.old { contents = next_edge self.old.contents end (Some edge.now) audience.now }) }
+        ensures refused { IfErr result (λ refusal. (refusal ≡ FeedRefusal.Memory)
+            ⊎ (refuses_edge limits.now self.old.contents type_def.now edge.now audience.now ≡ Some refusal)) }
         ensures err { OnErr result (self.new ≡ self.old) }
     {
-        self.rows.put_edge(edge, &row)
+        self.rows.put_edge(limits, type_def, edge, audience, end)
     }
 
     /// Takes an entity out, and no edge.

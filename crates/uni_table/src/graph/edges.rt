@@ -1,5 +1,5 @@
 //! The edges among the rows: look-ups, and one more, another row or a mark that it is gone.
-ghost use Rattle.std.specs.Prelude.{◌≡◌, ℕ, ◌+◌, ◌<◌, ◌^◌, true, Some, length, slice_get, OnOk, OnErr};
+ghost use Rattle.std.specs.Prelude.{◌≡◌, ℕ, ◌+◌, ◌<◌, ◌^◌, ◌⊎◌, true, None, Some, length, slice_get, IfErr, OnOk, OnErr};
 ghost use Rattle.std.specs.BTreeMap.{is_at};
 ghost use Rattle.std.specs.BTreeSet.{contains};
 ghost use Rattle.std.specs.Map.{keys_of};
@@ -10,17 +10,20 @@ ghost use Rattle.uni_table.specs.declared.graph.numbers.EdgeNo.{EdgeNo};
 ghost use Rattle.uni_table.specs.declared.graph.numbers.Node.{Node};
 ghost use Rattle.uni_table.specs.declared.graph.numbers.Slot.{Slot};
 ghost use Rattle.uni_table.specs.declared.graph.numbers.Source.{Source};
+ghost use Rattle.uni_table.specs.Commands.{next_edge, refuses_edge};
 ghost use Rattle.uni_table.specs.Contents.{edge_at, with_edge, without_edge};
-ghost use Rattle.uni_table.specs.GraphRows.{contents_of, published_of, written, is_same, edge_named, row_of, slot_named, slots_named, with_edge_row, is_live, end_cmp, IsRows, IsQuiet, IsCircleKnown, IsNoted};
+ghost use Rattle.uni_table.specs.GraphRows.{contents_of, published_of, written, is_same, edge_named, row_of, slot_named, slots_named, with_edge_row, is_live, end_cmp, IsRows, IsQuiet, IsCircleKnown, IsFound, IsNoted};
 
 use super::entities::recount;
+use super::found::FoundEdge;
 use super::numbers::{Before, EdgeNo, Node, Side, Slot, SlotState, Source};
 use super::rows::{MAX_ROWS, Rows};
 use super::touched::{make_room, note_touched};
-use crate::EdgeRow;
+use crate::{EdgeRow, FeedRefusal};
 use indexmap::IndexMap;
 use std::alloc::AllocError;
-use uni_base::{EdgeRef, EntityId};
+use uni_base::{Audience, EdgeRef, EntityId, Limits};
+use uni_schema::TypeDef;
 
 // Writes the state and the end of an edge, which the batch touches, and answers whether it was live.
 fn write_slot(edges: &mut IndexMap<EdgeNo, Slot>, index: usize, state: SlotState, end: u64) -> bool
@@ -83,6 +86,14 @@ impl Rows {
             Some(index) => self.row_at(index),
             None => None,
         }
+    }
+
+    /// How many edges there are.
+    pub fn count_edges(&self) -> u64
+        requires { IsRows self.now }
+        ensures { result ≡ length (contents_of self.now).edges }
+    {
+        self.edge_count
     }
 
     // Whether the batch has not touched an edge.
@@ -202,20 +213,60 @@ impl Rows {
         self.add_slot(number, state, end)
     }
 
-    /// Puts an edge, or another row in place of the one that it has.
-    pub fn put_edge(&mut self, edge: &EdgeRef, row: &EdgeRow) -> Result<(), AllocError>
+    // Puts an edge that was looked for, or another row in place of the one that it has.
+    fn put_found(
+        &mut self,
+        found: &FoundEdge<'_>,
+        audience: &Audience,
+        end: u64,
+    ) -> Result<(), AllocError>
+        requires kept { IsRows self.old }
+        requires found { IsFound self.old found.now }
+        ensures kept { IsRows self.new }
+        ensures published { published_of self.new ≡ published_of self.old }
+        ensures ok { OnOk result (contents_of self.new ≡ with_edge (contents_of self.old) found.now.edge.now (record { audience = audience.now; end = end })) }
+        ensures err { OnErr result (contents_of self.new ≡ contents_of self.old) }
+    {
+        let number = self.edge_no(found)?;
+        let state = self.state_of(audience)?;
+        match found.place {
+            Some(index) => self.set_edge(index, state, end),
+            None => self.add_edge(number, state, end),
+        }
+    }
+
+    /// Puts an edge of a type, or another row in place of the one that it has, or says why not.
+    pub fn put_edge(
+        &mut self,
+        limits: &Limits,
+        type_def: &TypeDef,
+        edge: &EdgeRef,
+        audience: &Option<Audience>,
+        end: u64,
+    ) -> Result<(), FeedRefusal>
         requires { IsRows self.old }
         ensures kept { IsRows self.new }
         ensures published { published_of self.new ≡ published_of self.old }
-        ensures ok { OnOk result (contents_of self.new ≡ with_edge (contents_of self.old) edge.now row.now) }
+        ensures taken { OnOk result (refuses_edge limits.now (contents_of self.old) type_def.now edge.now audience.now ≡ None) }
+        ensures ok { OnOk result (contents_of self.new ≡ next_edge (contents_of self.old) end (Some edge.now) audience.now) }
+        ensures refused { IfErr result (λ refusal. (refusal ≡ FeedRefusal.Memory)
+            ⊎ (refuses_edge limits.now (contents_of self.old) type_def.now edge.now audience.now ≡ Some refusal)) }
         ensures err { OnErr result (contents_of self.new ≡ contents_of self.old) }
     {
-        let number = self.edge_no(edge)?;
-        let state = self.state_of(&row.audience)?;
-        match self.place(number, edge) {
-            Some(index) => self.set_edge(index, state, row.end),
-            None => self.add_edge(number, state, row.end),
+        let found = self.found(edge);
+        if let Some(refusal) = self.refuses_ends(type_def, &found) {
+            return Err(refusal);
         }
+        let Some(audience) = audience else {
+            return Err(FeedRefusal::UnknownCircle);
+        };
+        if let Some(refusal) = self.refuses_new_edge(limits, type_def, &found) {
+            return Err(refusal);
+        }
+        let Ok(()) = self.put_found(&found, audience, end) else {
+            return Err(FeedRefusal::Memory);
+        };
+        Ok(())
     }
 
     /// Takes an edge out.

@@ -1,7 +1,7 @@
 //! The entities among the rows.
-ghost use Rattle.std.specs.Prelude.{◌≡◌, ℕ, ◌+◌, ◌^◌, ◌<◌, ◌≤◌, ◌++◌, Some, length, map, filter, slice_get, IfOk, OnOk, OnErr, IsPermutation};
+ghost use Rattle.std.specs.Prelude.{◌≡◌, ℕ, ◌+◌, ◌^◌, ◌<◌, ◌≤◌, ◌++◌, None, Some, length, map, filter, slice_get, IfOk, OnOk, OnErr, IsPermutation};
 ghost use Rattle.std.specs.Map.{keys_of};
-ghost use Rattle.std.specs.Option.{option_to_list};
+ghost use Rattle.std.specs.Option.{option_map_or, option_to_list};
 ghost use Rattle.uni_table.specs.Ranked.{doc_of, is_of_shard};
 ghost use Rattle.indexmap.specs.Layout.{set_value_at};
 ghost use Rattle.chained_rows.specs.Counts.{one_if};
@@ -58,6 +58,16 @@ impl Rows {
     {
         match self.ids.get(&id) {
             Some(node) => node.row,
+            None => None,
+        }
+    }
+
+    /// The entity of a number. None where there is none.
+    pub fn entity_at(&self, number: usize) -> Option<EntityRow>
+        ensures { result ≡ option_map_or (λ e. e.1.row) (slice_get self.now.ids.entries number) None }
+    {
+        match self.ids.get_index(number) {
+            Some((_, node)) => node.row,
             None => None,
         }
     }

@@ -1,7 +1,7 @@
 //! Lists of the edges that reach an id, and of those of a type and key, and their removal.
 ghost use Rattle.std.specs.Prelude.{◌≡◌, map, filter, OnOk};
 ghost use Rattle.uni_table.specs.Added.{Adds};
-ghost use Rattle.uni_table.specs.Contents.{count_from, reaches, starts_at, without_from, without_into};
+ghost use Rattle.uni_table.specs.Contents.{reaches, starts_at, without_from, without_into};
 ghost use Rattle.uni_table.specs.GraphRows.{contents_of, published_of, IsRows};
 ghost use Rattle.uni_table.specs.Lists.{held_of};
 
@@ -11,17 +11,6 @@ use std::alloc::AllocError;
 use uni_base::{EntityId, Held, Key};
 
 impl Rows {
-    /// How many edges of a type and key there are.
-    pub fn count_from(&self, type_no: u16, key: &Key) -> u64
-        requires { IsRows self.now }
-        ensures { result ≡ count_from (contents_of self.now) type_no key.now }
-    {
-        match self.source_index(type_no, key) {
-            Some(index) => self.count_at(Side::Source, index),
-            None => 0,
-        }
-    }
-
     /// Adds the edges of a type and key to a list, in some order.
     pub fn add_from(&self, type_no: u16, key: &Key, held: &mut Vec<Held>) -> Result<(), AllocError>
         requires { IsRows self.now }

@@ -65,7 +65,7 @@ impl Rows {
         }
     }
 
-    // The order of two edges whose keys are no ids, or not both.
+    // The order of two edges by their keys as they stand in the rows.
     fn compare_told(&self, one: &PlacedEdge, other: &PlacedEdge) -> Ordering
         ensures { result ≡ edge_cmp (edge_told self.now one.now) (edge_told self.now other.now) }
     {
@@ -78,7 +78,8 @@ impl Rows {
         }
     }
 
-    // The order of two edges. That of two with ids is told of their numbers without a branch.
+    // The order of two edges. Where both keys are ids it is told by all three numbers of each, since a branch
+    // after each of them would often be guessed wrong.
     fn compare(&self, one: &PlacedEdge, other: &PlacedEdge) -> Ordering
         ensures { result ≡ edge_cmp (edge_told self.now one.now) (edge_told self.now other.now) }
     {

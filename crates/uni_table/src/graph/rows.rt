@@ -1,6 +1,6 @@
 //! The rows of a graph, each map by number, and the numbers of edges and audiences.
 ghost use Rattle.std.specs.Prelude.{◌≡◌, ◌<◌, ◌^◌, true, None, Some, length, nat_eq, slice_get, IfOk, OnOk, OnErr};
-ghost use Rattle.std.specs.Map.{keys_of};
+ghost use Rattle.std.specs.Map.{keys_of, lookup};
 ghost use Rattle.indexmap.specs.IndexMap.{IsUnique};
 ghost use Rattle.uni_table.specs.Contents.{empty};
 ghost use Rattle.uni_table.specs.GraphRows.{contents_of, published_of, audience_named, last_at, IsRows, IsQuiet, IsNumbered, IsStateOf, IsCircleKnown, IsPlaceOf, IsIndexOf, Grows};
@@ -34,27 +34,44 @@ pub(crate) struct Rows {
 /// The greatest number of rows of a map.
 pub(super) const MAX_ROWS: usize = 4_294_967_295;
 
-/// The index of a key, which is added with a value where it is new.
+/// The index of a key that is none of a map, which is added with a value.
+fn add_key<K: Eq + Hash + Copy, V: Drop>(
+    map: &mut IndexMap<K, V>,
+    key: K,
+    value: V,
+) -> Result<u32, AllocError>
+    requires few { length map.old.entries < 2 ^ 32 }
+    requires new { lookup (K.eq key) map.old.entries ≡ None }
+    ensures grown { Grows map.old.entries map.new.entries key value }
+    ensures index { IfOk result (λ i. slice_get (keys_of map.new.entries) i ≡ Some key) }
+    ensures few { length map.new.entries < 2 ^ 32 }
+    ensures unique { IsUnique K.eq map.new }
+{
+    let index = map.len();
+    if index >= MAX_ROWS {
+        return Err(AllocError);
+    }
+    map.insert(key, value)?;
+    Ok(index as u32)
+}
+
+// The index of a key, which is added with a value where it is new.
 fn index_of<K: Eq + Hash + Copy, V: Drop>(
     map: &mut IndexMap<K, V>,
     key: K,
     value: V,
 ) -> Result<u32, AllocError>
     requires few { length map.old.entries < 2 ^ 32 }
+    requires unique { IsUnique K.eq map.old }
     ensures grown { Grows map.old.entries map.new.entries key value }
     ensures index { IfOk result (λ i. (k : K) × (slice_get (keys_of map.new.entries) i ≡ Some k) × (K.eq key k ≡ true)) }
     ensures few { length map.new.entries < 2 ^ 32 }
     ensures unique { IsUnique K.eq map.new }
 {
-    let index = map.len();
     if let Some((known, _, _)) = map.get_full(&key) {
         return Ok(known as u32);
     }
-    if index >= MAX_ROWS {
-        return Err(AllocError);
-    }
-    map.insert(key, value)?;
-    Ok(index as u32)
+    add_key(map, key, value)
 }
 
 impl Rows {
@@ -85,6 +102,17 @@ impl Rows {
         index_of(&mut self.sources, Source { type_no, key }, 0)
     }
 
+    /// The number of a type and key that is none of the sources, which is added.
+    pub fn add_source(&mut self, type_no: u16, key: Key) -> Result<u32, AllocError>
+        requires kept { IsRows self.old }
+        requires new { IsIndexOf source_eq (keys_of self.old.sources.entries) (record { type_no = type_no; key = key }) None }
+        ensures quiet { IsQuiet self.old self.new }
+        ensures ids { self.new.ids ≡ self.old.ids }
+        ensures number { IfOk result (λ n. slice_get (keys_of self.new.sources.entries) n ≡ Some (record { type_no = type_no; key = key })) }
+    {
+        add_key(&mut self.sources, Source { type_no, key }, 0)
+    }
+
     /// The number of an id.
     pub fn id_no(&mut self, id: EntityId) -> Result<u32, AllocError>
         requires { IsRows self.old }
@@ -98,17 +126,6 @@ impl Rows {
             last_edge: 0,
         };
         index_of(&mut self.ids, id, node)
-    }
-
-    /// The numbers of an edge.
-    pub fn edge_no(&mut self, edge: &EdgeRef) -> Result<EdgeNo, AllocError>
-        requires { IsRows self.old }
-        ensures quiet { IsQuiet self.old self.new }
-        ensures number { IfOk result (λ n. IsNumbered self.new n edge.now) }
-    {
-        let source = self.source_no(edge.type_no, edge.key)?;
-        let target = self.id_no(edge.target)?;
-        Ok(EdgeNo { source, target })
     }
 
     /// The state of an edge with an audience.
@@ -162,24 +179,6 @@ impl Rows {
             Some((index, _, _)) => Some(index),
             None => None,
         }
-    }
-
-    /// The index of an edge, gone or not. None where it never was there.
-    pub fn find(&self, edge: &EdgeRef) -> Option<usize>
-        requires { IsRows self.now }
-        ensures { IsPlaceOf self.now edge.now result }
-    {
-        let Some(source) = self.source_index(edge.type_no, &edge.key) else {
-            return None;
-        };
-        let Some(target) = self.id_index(edge.target) else {
-            return None;
-        };
-        let number = EdgeNo {
-            source: source as u32,
-            target: target as u32,
-        };
-        self.place(number, edge)
     }
 
     /// The index of the edge of two numbers, gone or not. None where it never was there.

@@ -64,8 +64,8 @@ impl Rows {
         Ok(())
     }
 
-    // Whether the edge of an index is not gone.
-    fn is_live(&self, index: usize) -> bool
+    /// Whether the edge of an index is not gone.
+    pub fn is_live(&self, index: usize) -> bool
         requires { index < length self.now.edges.entries }
         ensures { (e : EdgeNo × Slot) → slice_get self.now.edges.entries index ≡ Some e → result ≡ is_live e.1.state }
     {

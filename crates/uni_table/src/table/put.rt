@@ -2,7 +2,7 @@ ghost use Rattle.std.specs.Prelude.{◌≡◌, ◌<◌, ◌⊎◌, None, Some, l
 ghost use Rattle.uni_table.specs.declared.command.Command.TheVariants.{Entity, Edge, Cut};
 
 use crate::table::circles::audience_of;
-use crate::{AudienceText, EdgeRow, EntityRow, FeedRefusal, Table};
+use crate::{AudienceText, EntityRow, FeedRefusal, Table};
 use uni_base::{EdgeRef, EntityId, Rank, Word};
 
 impl Table {
@@ -54,23 +54,9 @@ impl Table {
             key,
             target,
         };
-        if let Some(refusal) = self.refuses_ends(type_def, &edge) {
-            return Err(refusal);
-        }
-        let Some(audience) = audience_of(&self.schema, audience) else {
-            return Err(FeedRefusal::UnknownCircle);
-        };
-        if let Some(refusal) = self.refuses_new_edge(type_def, &edge) {
-            return Err(refusal);
-        }
-        let row = EdgeRow {
-            audience,
-            end: until,
-        };
-        let Ok(()) = self.graph.put_edge(&edge, row) else {
-            return Err(FeedRefusal::Memory);
-        };
-        Ok(())
+        let audience = audience_of(&self.schema, audience);
+        self.graph
+            .put_edge(&self.limits, type_def, &edge, &audience, until)
     }
 
     pub(crate) fn cut(&mut self, type_no: u16, text: &Word, target: EntityId)
