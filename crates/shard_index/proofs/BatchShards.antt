@@ -1,32 +1,38 @@
--- The layers of a batch, one shard and one vertical after another.
-use Rattle.std.proofs.Common.{◌≡◌, ◌⊎◌, inl, inr, ℕ, ◌+◌, ◌<◌, true, false, List, [], ◌∷◌, ◌++◌, map, length, take, Option, None, Some, refl, sym, ◌∙◌, ap, subst, arith, slice_get, append-nil, append_assoc}
-use Rattle.std.proofs.lemmas.List.{take_more, length-take-le}
-use Rattle.std.proofs.lemmas.List.FromFn.{map-range_with_len_more}
+-- The layers of what is noted of a batch take the rows of their shards to what they are now.
+use Rattle.std.proofs.Common.{◌≡◌, ◌⊎◌, inl, inr, ◌<◌, true, false, List, [], ◌∷◌, map, length, replicate, Option, None, Some, refl, sym, ◌∙◌, ap, subst}
 use Rattle.std.proofs.lemmas.List.Elements.{All-contains, All-contains_itself, All-weaker}
 use Rattle.std.proofs.lemmas.List.Sums.{AllPass-from_list_all}
 use Rattle.std.proofs.lemmas.Map.Views.{Contains-from_lookup}
-use Rattle.std.proofs.lemmas.Option.{slice_get_within, get_or_from_slice_get}
-use Rattle.std.specs.List.{All, AllZip, Contains, range_with_len}
+use Rattle.std.proofs.lemmas.Option.{slice_get_within}
+use Rattle.std.specs.FinMap as finite
+use Rattle.std.specs.List.{All, AllZip, Contains}
 use Rattle.std.specs.Option.{option_map_or, IsSome}
 use Rattle.std.specs.Ordering.{eq_by_cmp}
 use Rattle.uni_base.specs.declared.edge.EdgeRef.{EdgeRef}
 use Rattle.uni_base.specs.declared.limits.Limits.{Limits}
 use Rattle.uni_base.specs.EdgeOrder.{edge_cmp}
 use Rattle.uni_schema.specs.declared.schema.TypeDef.{TypeDef}
-use Rattle.uni_schema.specs.declared.schema.VerticalDef.{VerticalDef}
 use Rattle.uni_schema.specs.Schema.{Declarations, type_at}
-use Rattle.uni_table.specs.Changes.{rank_at, AreEdgeChanges, IsEdgeChange}
+use Rattle.uni_table.specs.Changes.{rank_at, AreEdgeChanges, AreEntityChanges, IsEdgeChange}
 use Rattle.uni_table.specs.Contents.{Contents, edge_at, key_stands, source_stands}
 use Rattle.uni_table.specs.GraphKeys.{exact_edges}
 use Rattle.uni_table.specs.TableState.{TableState, IsKept}
 use Rattle.uni_table.specs.declared.change.EdgeChange.{EdgeChange}
+use Rattle.uni_table.specs.declared.change.EntityChange.{EntityChange}
 use Rattle.uni_table.specs.declared.command.EdgeRow.{EdgeRow}
 use Rattle.layer_base.specs.Layers.{layer_over as table_over}
-use Rattle.forward_data.specs.Records.{records_over}
-use Rattle.shard_index.specs.Batches.{shard_place, shards_of, shards_from, shards_at, TakesOver, TakeOver, TakesMore}
+use Rattle.forward_data.specs.Records.{record_cmp, records_over}
+use Rattle.shard_index.specs.declared.batch.notes.ShardNotes.{ShardNotes}
+use Rattle.shard_index.specs.Batches.{ShardPlace, all_shards, TakesOver, TakeOver}
+use Rattle.shard_index.specs.ChangedRows.{shard_entities}
+use Rattle.shard_index.specs.Notes.{no_notes, noted_layer, IsNoted, AreNoted}
 use Rattle.shard_index.specs.Rows.{ShardRows, ShardChanges, layer_over}
+use Rattle.shard_index.specs.Shards.{shard_rows}
+use Rattle.shard_index.proofs.ChangedEntities.{entities_turned}
+use Rattle.shard_index.proofs.ChangedPostings.{postings_turned}
+use Rattle.shard_index.proofs.ChangedRecords.{records_turned}
+use Rattle.shard_index.proofs.FewEntries.{few_entries}
 use Rattle.shard_index.proofs.LoggedMaps.{equal_of}
-use Rattle.shard_index.proofs.StackPlaces.{found_below}
 
 -- ---- the types of edges that changed are declared
 
@@ -73,46 +79,35 @@ pub parts_take : (old new : ShardRows) (layer : ShardChanges) → ThreeParts old
 unfolding layer_over
 parts_take old new layer parts = λ i. record { entities = parts.entities i; postings = parts.postings i; records = parts.records i }
 
--- ---- one shard more, and one vertical more
+-- ---- a layer of what was noted
 
-zip-append : {A B : Type 0} (R : A → B → Type 0) (xs : List A) (ys : List B) (us : List A) (vs : List B) → AllZip R xs ys → AllZip R us vs → AllZip R (xs ++ us) (ys ++ vs)
-zip-append R [] [] us vs one other = other
-zip-append R [] (y ∷ ys) us vs one other = absurd one
-zip-append R (x ∷ xs) [] us vs one other = absurd one
-zip-append R (x ∷ xs) (y ∷ ys) us vs one other = (one.0, zip-append R xs ys us vs one.1 other)
-
-module _ (table : TableState) where
-  pub shard_added : (v n : ℕ) (start old new : List ShardChanges) (layer : ShardChanges) → TakesMore table (map (shard_place v) (range_with_len 0 n)) start old
-      → TakesOver table.schema table.published table.contents (shard_place v n) layer → new ≡ old ++ layer ∷ [] → TakesMore table (map (shard_place v) (range_with_len 0 (n + 1))) start new
-  shard_added v n start old new layer so_far takes added =
-      let first : 0 + n ≡ n = omega arith in
-      let places : map (shard_place v) (range_with_len 0 n) ++ shard_place v n ∷ [] ≡ map (shard_place v) (range_with_len 0 (n + 1)) = sym (map-range_with_len_more (shard_place v) 0 n n first) in
+module _ (table : TableState) (old_kept : IsKept table.schema table.limits table.published) (kept : IsKept table.schema table.limits table.contents) (es : List EntityChange) (changed : AreEntityChanges table.published table.contents es) (cs : List EdgeChange) (are : AreEdgeChanges table.published table.contents cs) where
+  noted_takes : (place : ShardPlace) (notes : ShardNotes) → IsNoted table es es cs place notes → TakesOver table.schema table.published table.contents place (noted_layer notes)
+  noted_takes place notes noted =
+      let schema = table.schema in let old = table.published in let new = table.contents in let v = place.vertical in let s = place.shard in
+      let entities : notes.entities ≡ shard_entities schema v s es = λ i. record { deletes = noted.removals i; puts = noted.puts i } in
       record {
-        added = so_far.added ++ layer ∷ [];
-        is = added ∙ ap (λ ls. ls ++ layer ∷ []) so_far.is ∙ append_assoc start so_far.added (layer ∷ []);
-        takes = subst (λ ps. TakeOver table ps (so_far.added ++ layer ∷ [])) places
-            (zip-append (TakesOver table.schema table.published table.contents) (map (shard_place v) (range_with_len 0 n)) so_far.added (shard_place v n ∷ []) (layer ∷ []) so_far.takes (takes, tt));
+        rows = parts_take (shard_rows schema old v s) (shard_rows schema new v s) (noted_layer notes) (record {
+          entities = ap (table_over (shard_rows schema old v s).entities) entities ∙ entities_turned old new es changed schema table.limits v s old_kept kept;
+          postings = ap (table_over (shard_rows schema old v s).postings) noted.postings ∙ postings_turned schema table.limits old new v s old_kept kept cs are;
+          records = records_turned schema v s table.limits old new old_kept kept cs are notes.records noted.records;
+        });
+        few = few_entries schema table.limits old new v s old_kept kept es changed cs are (noted_layer notes) (record { entities = entities; postings = noted.postings; records = noted.records });
       }
 
-  shards-append : (a : ℕ) (xs ys : List VerticalDef) → shards_from a (xs ++ ys) ≡ shards_from a xs ++ shards_from (a + length xs) ys
-  shards-append a [] ys = let same : a ≡ a + 0 = omega arith in ap (λ n. shards_from n ys) same
-  shards-append a (x ∷ xs) ys =
-      let same : a + 1 + length xs ≡ a + length (x ∷ xs) = omega arith in
-      ap (λ ps. shards_of a x ++ ps) (shards-append (a + 1) xs ys ∙ ap (λ n. shards_from (a + 1) xs ++ shards_from n ys) same)
-      ∙ sym (append_assoc (shards_of a x) (shards_from (a + 1) xs) (shards_from (a + length (x ∷ xs)) ys))
+  all_take : (places : List ShardPlace) (notes : List ShardNotes) → AllZip (IsNoted table es es cs) places notes → TakeOver table places (map noted_layer notes)
+  all_take [] [] all = tt
+  all_take [] (n ∷ notes) all = absurd all
+  all_take (p ∷ places) [] all = absurd all
+  all_take (p ∷ places) (n ∷ notes) all = (noted_takes p n all.0, all_take places notes all.1)
 
-  vertical_more : (ds : List VerticalDef) (i : ℕ) (d : VerticalDef) → slice_get ds i ≡ Some d → shards_from 0 (take (i + 1) ds) ≡ shards_from 0 (take i ds) ++ shards_of i d
-  vertical_more ds i d at =
-      let fits : i < length ds = slice_get_within ds i d at in
-      let long : 0 + length (take i ds) ≡ i = omega (arith, length-take-le i ds (omega arith)) in
-      ap (shards_from 0) (take_more ds i d fits ∙ ap (λ x. take i ds ++ x ∷ []) (get_or_from_slice_get ds i d d at)) ∙ shards-append 0 (take i ds) (d ∷ [])
-      ∙ ap (λ ps. shards_from 0 (take i ds) ++ ps) (append-nil (shards_of (0 + length (take i ds)) d) ∙ ap (λ n. shards_of n d) long)
+  pub batch_taken : (notes : List ShardNotes) → AreNoted table es es cs notes → TakeOver table (all_shards table.schema) (map noted_layer notes)
+  batch_taken notes all = all_take (all_shards table.schema) notes all
 
-  pub vertical_added : (i : ℕ) (old new : List ShardChanges) → i < length table.schema.verticals → TakesMore table (shards_at table.schema i) old new
-      → TakeOver table (shards_from 0 (take i table.schema.verticals)) old → TakeOver table (shards_from 0 (take (i + 1) table.schema.verticals)) new
-  vertical_added i old new below more so_far =
-      let found = found_below table.schema.verticals i below in
-      let places : shards_at table.schema i ≡ shards_of i found.0 = ap (λ o. option_map_or (shards_of i) o []) found.1 in
-      let both = zip-append (TakesOver table.schema table.published table.contents) (shards_from 0 (take i table.schema.verticals)) old (shards_at table.schema i) more.added so_far more.takes in
-      subst (λ ls. TakeOver table (shards_from 0 (take (i + 1) table.schema.verticals)) ls) (sym more.is)
-      (subst (λ ps. TakeOver table ps (old ++ more.added)) (ap (λ ps. shards_from 0 (take i table.schema.verticals) ++ ps) places ∙ sym (vertical_more table.schema.verticals i found.0 found.1)) both)
+-- nothing is noted at first
+pub none_noted : (table : TableState) → AreNoted table [] [] [] (replicate (length (all_shards table.schema)) no_notes)
+none_noted table = each (all_shards table.schema)
+  where
+    each : (places : List ShardPlace) → AllZip (IsNoted table [] [] []) places (replicate (length places) no_notes)
+    each [] = tt
+    each (p ∷ places) = (record { removals = refl; puts = refl; postings = refl; records = λ q. finite.get-empty record_cmp q; last = λ key e. cc }, each places)

@@ -1,6 +1,6 @@
 -- A layer of the rows that differ makes of a table the other one, key by key.
-use Rattle.std.proofs.Common.{◌≡◌, ℕ, ◌+◌, ◌<◌, Bool, true, false, not, cond, if◌then◌else◌, ◌||◌, ◌&&◌, ◌⊎◌, inl, inr, List, [], ◌∷◌, ◌++◌, take, length, get_or, Option, None, Some, is_some, refl, sym, ◌∙◌, ap, subst, append-nil}
-use Rattle.std.proofs.lemmas.List.Elements.{All-contains_itself, recursion_from_All}
+use Rattle.std.proofs.Common.{◌≡◌, Bool, true, false, not, cond, if◌then◌else◌, ◌||◌, ◌&&◌, ◌⊎◌, inl, inr, List, [], ◌∷◌, ◌++◌, Option, None, Some, is_some, refl, sym, ◌∙◌, ap, subst, append-nil}
+use Rattle.std.proofs.lemmas.List.Elements.{All-contains_itself, recursion_from_All, filter_map-append}
 use Rattle.std.specs.Cmp.{IsTotalOrder, tied_itself}
 use Rattle.std.specs.declared.cmp.Ordering.{Ordering}
 use Rattle.std.specs.FinMap as finite
@@ -12,7 +12,6 @@ use Rattle.layer_base.specs.Lookups.{either}
 use Rattle.layer_base.proofs.Tables.{from_log-push}
 use Rattle.shard_index.specs.Differences.{with_row, noting, dropped, added, layer_from}
 use Rattle.shard_index.specs.Touched.{same_rows}
-use Rattle.shard_index.proofs.BaseRows.{filter_map-more}
 use Rattle.shard_index.proofs.LoggedMaps.{equal_of, Agree, stands_there, logged_is}
 
 -- ---- one change more
@@ -21,15 +20,19 @@ logged_more : {K X : Type 0} {R : K → K → Ordering} (log : List (K × X)) (r
 logged_more {R = R} log None = ap (from_log {R = R}) (sym (append-nil log))
 logged_more log (Some row) = sym (from_log-push log row.0 row.1)
 
-module _ {K X : Type 0} {R : K → K → Ordering} where
-  pub noted_more : {C : Type 0} (same : X → X → Bool) (was now : C → Option (K × X)) (changes : List C) (i : ℕ) (c : C) → i < length changes → c ≡ get_or changes i c
-      → noting (layer_from R same was now (take i changes)) (dropped R same (was c) (now c)) (added R same (was c) (now c)) ≡ layer_from R same was now (take (i + 1) changes)
-  noted_more same was now changes i c below is = λ j. record {
-    deletes = (logged_more (filter_map (λ d. dropped R same (was d) (now d)) (take i changes)) (dropped R same (was c) (now c))
-        ∙ ap (from_log {R = R}) (sym (filter_map-more (λ d. dropped R same (was d) (now d)) changes i c (dropped R same (was c) (now c)) below is refl))) j;
-    puts = (logged_more (filter_map (λ d. added R same (was d) (now d)) (take i changes)) (added R same (was c) (now c))
-        ∙ ap (from_log {R = R}) (sym (filter_map-more (λ d. added R same (was d) (now d)) changes i c (added R same (was c) (now c)) below is refl))) j;
-  }
+module _ {C K X : Type 0} {R : K → K → Ordering} (same : X → X → Bool) (was now : C → Option (K × X)) (changes : List C) (c : C) where
+  pub deleted_more : with_row (layer_from R same was now changes).deletes (dropped R same (was c) (now c)) ≡ (layer_from R same was now (changes ++ c ∷ [])).deletes
+  deleted_more =
+      logged_more (filter_map (λ d. dropped R same (was d) (now d)) changes) (dropped R same (was c) (now c))
+      ∙ ap (from_log {R = R}) (sym (filter_map-append (λ d. dropped R same (was d) (now d)) changes (c ∷ [])))
+
+  pub put_more : with_row (layer_from R same was now changes).puts (added R same (was c) (now c)) ≡ (layer_from R same was now (changes ++ c ∷ [])).puts
+  put_more =
+      logged_more (filter_map (λ d. added R same (was d) (now d)) changes) (added R same (was c) (now c))
+      ∙ ap (from_log {R = R}) (sym (filter_map-append (λ d. added R same (was d) (now d)) changes (c ∷ [])))
+
+  pub noted_more : noting (layer_from R same was now changes) (dropped R same (was c) (now c)) (added R same (was c) (now c)) ≡ layer_from R same was now (changes ++ c ∷ [])
+  noted_more = λ j. record { deletes = deleted_more j; puts = put_more j }
 
 -- ---- what is said of one key
 

@@ -17,9 +17,10 @@ pub mod FullRows
 pub mod IndexParts
 pub mod JoinedLayers
 pub mod KeptEdges
+pub mod KeptShards
 pub mod LoggedMaps
 pub mod MergedTables
-pub mod OwnChanges
+pub mod OneNoted
 pub mod PostedRows
 pub mod ReachedItems
 pub mod ReadEdges
@@ -32,6 +33,7 @@ pub mod RecordRuns
 pub mod RecordsNoted
 pub mod SameItems
 pub mod SameLists
+pub mod ShardNumbers
 pub mod SplitLists
 pub mod Squeezed
 pub mod StackLaws

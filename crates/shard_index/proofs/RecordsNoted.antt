@@ -1,10 +1,8 @@
 -- The records that change with edges, one edge after another.
-use Rattle.std.proofs.Common.{◌≡◌, ℕ, ◌+◌, ◌<◌, ◌||◌, Bool, true, false, cond, if◌then◌else◌, List, [], ◌∷◌, ◌++◌, take, length, get_or, Option, None, Some, refl, sym, ◌∙◌, ap}
-use Rattle.std.proofs.lemmas.List.{take_more}
+use Rattle.std.proofs.Common.{◌≡◌, ℕ, ◌||◌, Bool, true, false, cond, if◌then◌else◌, List, [], ◌∷◌, ◌++◌, Option, None, Some, refl, sym, ◌∙◌, ap}
 use Rattle.std.specs.Cmp.{tied_itself}
 use Rattle.std.specs.FinMap as finite
 use Rattle.std.specs.List.{list_any}
-use Rattle.std.specs.Option.{option_or}
 use Rattle.std.specs.Ordering.{eq_by_cmp, is_eq}
 use Rattle.uni_schema.specs.Schema.{Declarations}
 use Rattle.uni_table.specs.Contents.{Contents}
@@ -13,7 +11,7 @@ use Rattle.forward_data.specs.declared.record.ForwardItem.{ForwardItem}
 use Rattle.forward_data.specs.declared.record.RecordKey.{RecordKey}
 use Rattle.forward_data.specs.Records.{Records, record_cmp}
 use Rattle.forward_data.proofs.Order.{record_total, record_apart}
-use Rattle.shard_index.specs.ChangedRows.{is_record, changed_record, is_among, items_of, replacing_new, AreShardRecords}
+use Rattle.shard_index.specs.ChangedRows.{is_record, changed_record, is_among, items_of, replacing_new, latest, AreShardRecords}
 use Rattle.shard_index.proofs.LoggedMaps.{equal_of}
 
 any_more : {X : Type 0} (p : X → Bool) (xs : List X) (x : X) → list_any p (xs ++ x ∷ []) ≡ (list_any p xs || p x)
@@ -68,23 +66,24 @@ module _ (table : Contents) (among : RecordKey → Bool) (records : Records) (la
           finite.get-insert record_total records k (items_of table k) q ∙ ap (λ b. cond b (Some (items_of table k)) (finite.get records q)) here
           ∙ so_far q ∙ ap (λ b. there b q) (sym (ap (λ b. among q || b) here ∙ or_false (among q)))
 
-  latest : (key : Option RecordKey) (k : RecordKey) → option_or key last ≡ Some k → (among k || is_record k key) ≡ true
-  latest None k e = or_first (among k) false (last_is k e)
-  latest (Some other) k e = let is : other ≡ k = cc in ap (λ x. among k || eq_by_cmp record_cmp k x) is ∙ ap (λ b. among k || b) (record_itself k) ∙ or_true (among k)
+  later : (key : Option RecordKey) (k : RecordKey) → latest last key ≡ Some k → (among k || is_record k key) ≡ true
+  later None k e = or_first (among k) false (last_is k e)
+  later (Some other) k e = by (is_record other last) e
+    where
+      by : (b : Bool) → (if b then last else Some other) ≡ Some k → (among k || eq_by_cmp record_cmp k other) ≡ true
+      by true f = or_first (among k) (eq_by_cmp record_cmp k other) (last_is k f)
+      by false f = let is : other ≡ k = cc in ap (λ x. among k || eq_by_cmp record_cmp k x) is ∙ ap (λ b. among k || b) (record_itself k) ∙ or_true (among k)
 
 -- one change more
-module _ (schema : Declarations) (vertical shard : ℕ) (table : Contents) (changes : List EdgeChange) (i : ℕ) (change : EdgeChange) (below : i < length changes) (is : change ≡ get_or changes i change)
-    (records : Records) (last : Option RecordKey) (so_far : AreShardRecords schema vertical shard table (take i changes) records)
-    (last_is : (key : RecordKey) → last ≡ Some key → is_among schema vertical shard (take i changes) key ≡ true) where
-  among_more : (q : RecordKey) → is_among schema vertical shard (take (i + 1) changes) q ≡ (is_among schema vertical shard (take i changes) q || is_record q (changed_record schema vertical shard change))
-  among_more q =
-      ap (λ cs. is_among schema vertical shard cs q) (take_more changes i change below ∙ ap (λ c. take i changes ++ c ∷ []) (sym is))
-      ∙ any_more (λ c. is_record q (changed_record schema vertical shard c)) (take i changes) change
+module _ (schema : Declarations) (vertical shard : ℕ) (table : Contents) (changes : List EdgeChange) (change : EdgeChange) (records : Records) (last : Option RecordKey)
+    (so_far : AreShardRecords schema vertical shard table changes records) (last_is : (key : RecordKey) → last ≡ Some key → is_among schema vertical shard changes key ≡ true) where
+  among_more : (q : RecordKey) → is_among schema vertical shard (changes ++ change ∷ []) q ≡ (is_among schema vertical shard changes q || is_record q (changed_record schema vertical shard change))
+  among_more q = any_more (λ c. is_record q (changed_record schema vertical shard c)) changes change
 
-  pub records_noted : AreShardRecords schema vertical shard table (take (i + 1) changes) (replacing_new table records last (changed_record schema vertical shard change))
+  pub records_noted : AreShardRecords schema vertical shard table (changes ++ change ∷ []) (replacing_new table records last (changed_record schema vertical shard change))
   records_noted q =
-      noted table (is_among schema vertical shard (take i changes)) records last so_far last_is (changed_record schema vertical shard change) q
+      noted table (is_among schema vertical shard changes) records last so_far last_is (changed_record schema vertical shard change) q
       ∙ ap (λ b. if b then Some (items_of table q) else None) (sym (among_more q))
 
-  pub latest_noted : (key : RecordKey) → option_or (changed_record schema vertical shard change) last ≡ Some key → is_among schema vertical shard (take (i + 1) changes) key ≡ true
-  latest_noted key e = among_more key ∙ latest table (is_among schema vertical shard (take i changes)) records last so_far last_is (changed_record schema vertical shard change) key e
+  pub latest_noted : (key : RecordKey) → latest last (changed_record schema vertical shard change) ≡ Some key → is_among schema vertical shard (changes ++ change ∷ []) key ≡ true
+  latest_noted key e = among_more key ∙ later table (is_among schema vertical shard changes) records last so_far last_is (changed_record schema vertical shard change) key e

@@ -1,14 +1,13 @@
 -- Items by the shards that they concern, one item after another.
-use Rattle.std.proofs.Common.{◌≡◌, ◌==◌, ◌<◌, ◌≤◌, ℕ, zero, suc, ◌+◌, true, false, cond, if◌then◌else◌, List, [], ◌∷◌, ◌++◌, map, filter, take, length, get_or, slice_set, Option, None, Some, refl, sym, ◌∙◌, ap, arith, append-nil}
+use Rattle.std.proofs.Common.{◌≡◌, ◌==◌, ◌<◌, ℕ, zero, suc, ◌+◌, true, false, cond, if◌then◌else◌, List, [], ◌∷◌, ◌++◌, map, filter, take, length, get_or, slice_set, Option, None, Some, refl, sym, ◌∙◌, ap, arith, append-nil}
 use Rattle.std.proofs.lemmas.Bool.Decides.{nat_tests}
 use Rattle.std.proofs.lemmas.List.{take_more, get_or-map, length-map, map-append}
 use Rattle.std.proofs.lemmas.List.Elements.{filter-append}
 use Rattle.std.proofs.lemmas.List.FromFn.{length-map-range_with_len, map-range_with_len_more}
-use Rattle.std.specs.Borrow.{Bor}
 use Rattle.std.specs.declared.vec.Vec.{Vec}
 use Rattle.std.specs.Global.{Global}
 use Rattle.std.specs.List.{range_with_len}
-use Rattle.shard_index.specs.Split.{is_shard, with_item, split_by, lists_of, empty_lists_of, told, lists_told}
+use Rattle.shard_index.specs.Split.{is_shard, with_item, split_by, lists_of, empty_lists_of}
 
 not_same : (a b : ℕ) → a < b → (a == b) ≡ false
 not_same a b below = grind (arith, nat_tests)
@@ -68,24 +67,10 @@ module _ {X : Type 0} (concerns : X → Option ℕ) (shards : ℕ) (xs : List X)
 pub length-split : {X : Type 0} (concerns : X → Option ℕ) (shards : ℕ) (xs : List X) → length (split_by concerns shards xs) ≡ shards
 length-split concerns shards xs = length-map-range_with_len (λ shard. filter (λ x. is_shard shard (concerns x)) xs) 0 shards
 
-at_range : {X : Type 0} (f : ℕ → X) (a n k : ℕ) (d : X) → k < n → get_or (map f (range_with_len a n)) k d ≡ f (a + k)
-at_range f a zero k d fits = absurd (omega (arith, fits))
-at_range f a (suc n) zero d fits = let same : a ≡ a + 0 = omega arith in ap f same
-at_range f a (suc n) (suc k) d fits = let same : a + 1 + k ≡ a + suc k = omega arith in at_range f (a + 1) n k d (omega (arith, fits)) ∙ ap f same
-
--- the items of one shard
-pub split_at : {X : Type 0} (concerns : X → Option ℕ) (shards : ℕ) (xs : List X) (k : ℕ) (d : List X) → k < shards → get_or (split_by concerns shards xs) k d ≡ filter (λ x. is_shard k (concerns x)) xs
-split_at concerns shards xs k d fits = let first : 0 + k ≡ k = omega arith in at_range (λ shard. filter (λ x. is_shard shard (concerns x)) xs) 0 shards k d fits ∙ ap (λ n. filter (λ x. is_shard n (concerns x)) xs) first
-
 -- ---- lists that are kept in vectors
 
 abbrev empty_list : (X : Type 0) → List X
 empty_list X = []
-
-past_end : {X : Type 0} (xs : List X) (n : ℕ) (v : X) → length xs ≤ n → slice_set xs n v ≡ xs
-past_end [] n v over = refl
-past_end (x ∷ xs) zero v over = absurd (omega (arith, over))
-past_end (x ∷ xs) (suc n) v over = ap (λ ys. x ∷ ys) (past_end xs n v (omega (arith, over)))
 
 set_list : {X : Type 0} (vectors : List (Vec X Global)) (n : ℕ) (v : Vec X Global) → lists_of (slice_set vectors n v) ≡ slice_set (lists_of vectors) n v.items
 set_list [] n v = refl
@@ -102,63 +87,12 @@ empty_more {X} vectors v n so_far none =
     let first : 0 + n ≡ n = omega arith in
     map-append (λ (w : Vec X Global). w.items) vectors (v ∷ []) ∙ (λ i. so_far i ++ none i ∷ []) ∙ sym (map-range_with_len_more (λ (k : ℕ). empty_list X) 0 n n first)
 
--- one more item in a list that there is, and in one that there is not
+-- one more item in a list
 pub pushed : {X : Type 0} (vectors : List (Vec X Global)) (n : ℕ) (old new : Vec X Global) (x : X) → n < length vectors → old ≡ get_or vectors n old → new.items ≡ old.items ++ x ∷ []
     → lists_of (slice_set vectors n new) ≡ with_item (lists_of vectors) (Some n) x
 pushed vectors n old new x below is added = set_list vectors n new ∙ ap (slice_set (lists_of vectors) n) (added ∙ ap (λ ys. ys ++ x ∷ []) (list_is vectors n old below is []))
 
-pub left_out : {X : Type 0} (vectors : List (Vec X Global)) (n : ℕ) (x : X) → length vectors ≤ n → lists_of vectors ≡ with_item (lists_of vectors) (Some n) x
-left_out vectors n x over = sym (past_end (lists_of vectors) n (get_or (lists_of vectors) n [] ++ x ∷ []) (omega (arith, over, length-map vectors (λ (v : Vec _ Global). v.items))))
-
--- as many lists as shards, and the list of one
+-- as many lists as shards
 module _ {X : Type 0} (vectors : List (Vec X Global)) (concerns : X → Option ℕ) (shards : ℕ) (xs : List X) (split : lists_of vectors ≡ split_by concerns shards xs) where
   pub as_many : length vectors ≡ shards
   as_many = sym (length-map vectors (λ (v : Vec X Global). v.items)) ∙ ap length split ∙ length-split concerns shards xs
-
-  pub own_list : (k : ℕ) (v : Vec X Global) → k < shards → v ≡ get_or vectors k v → v.items ≡ filter (λ x. is_shard k (concerns x)) xs
-  own_list k v below is = list_is vectors k v (omega (arith, below, as_many)) is [] ∙ ap (λ ls. get_or ls k []) split ∙ split_at concerns shards xs k [] below
-
--- ---- lists of references
-
-module _ {X : Type 0} where
-  pub told_below : (cs : List (Bor X)) (i : ℕ) → i < length cs → i < length (told cs)
-  told_below cs i below = omega (arith, below, length-map cs (λ (c : Bor X). c.now))
-
-  pub told_at : (cs : List (Bor X)) (i : ℕ) (c : Bor X) → i < length cs → c ≡ get_or cs i c → c.now ≡ get_or (told cs) i c.now
-  told_at cs i c below is = ap (λ (b : Bor X). b.now) is ∙ sym (get_or-map (λ (b : Bor X). b.now) cs i c c.now below)
-
-  told_set : (lists : List (List (Bor X))) (n : ℕ) (list : List (Bor X)) → map told (slice_set lists n list) ≡ slice_set (map told lists) n (told list)
-  told_set [] n list = refl
-  told_set (l ∷ lists) zero list = refl
-  told_set (l ∷ lists) (suc n) list = ap (λ ls. told l ∷ ls) (told_set lists n list)
-
-  told_get : (lists : List (List (Bor X))) (n : ℕ) → told (get_or lists n []) ≡ get_or (map told lists) n []
-  told_get [] n = refl
-  told_get (l ∷ lists) zero = refl
-  told_get (l ∷ lists) (suc n) = told_get lists n
-
-  -- one more item
-  pub told_item : (lists : List (List (Bor X))) (at : Option ℕ) (c : Bor X) → map told (with_item lists at c) ≡ with_item (map told lists) at c.now
-  told_item lists None c = refl
-  told_item lists (Some n) c =
-      told_set lists n (get_or lists n [] ++ c ∷ [])
-      ∙ ap (slice_set (map told lists) n) (map-append (λ (b : Bor X). b.now) (get_or lists n []) (c ∷ []) ∙ ap (λ (ys : List X). ys ++ c.now ∷ []) (told_get lists n))
-
-  told_none : (a n : ℕ) → map told (map (λ (k : ℕ). empty_list (Bor X)) (range_with_len a n)) ≡ map (λ (k : ℕ). empty_list X) (range_with_len a n)
-  told_none a zero = refl
-  told_none a (suc n) = ap (λ (ls : List (List X)). [] ∷ ls) (told_none (a + 1) n)
-
-  -- empty lists
-  pub told_empty : (vectors : List (Vec (Bor X) Global)) (n : ℕ) → lists_of vectors ≡ empty_lists_of n → lists_told vectors ≡ empty_lists_of n
-  told_empty vectors n are = ap (map told) are ∙ told_none 0 n
-
-  module _ (vectors : List (Vec (Bor X) Global)) (concerns : X → Option ℕ) (shards : ℕ) (xs : List X) (split : lists_told vectors ≡ split_by concerns shards xs) where
-    -- as many lists as shards, and the list of one
-    pub as_many_told : length vectors ≡ shards
-    as_many_told =
-        sym (length-map vectors (λ (v : Vec (Bor X) Global). v.items)) ∙ sym (length-map (lists_of vectors) told) ∙ ap length split ∙ length-split concerns shards xs
-
-    pub own_told : (k : ℕ) (v : Vec (Bor X) Global) → k < shards → v ≡ get_or vectors k v → told v.items ≡ filter (λ x. is_shard k (concerns x)) xs
-    own_told k v below is =
-        ap told (list_is vectors k v (omega (arith, below, as_many_told)) is []) ∙ told_get (lists_of vectors) k
-        ∙ ap (λ ls. get_or ls k []) split ∙ split_at concerns shards xs k [] below

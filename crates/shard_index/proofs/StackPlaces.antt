@@ -15,19 +15,19 @@ use Rattle.uni_schema.specs.declared.schema.VerticalDef.{VerticalDef}
 use Rattle.uni_schema.specs.Schema.{Declarations, vertical_at, is_vertical}
 use Rattle.shard_index.specs.Places.{stack_place, shard_places, vertical_places, places_from, stack_places, replicas_in, IsStack, stacks_of, stack_count, stack_no}
 
-get_left : {X : Type 0} (xs ys : List X) (i : ℕ) → i < length xs → slice_get (xs ++ ys) i ≡ slice_get xs i
+pub get_left : {X : Type 0} (xs ys : List X) (i : ℕ) → i < length xs → slice_get (xs ++ ys) i ≡ slice_get xs i
 get_left [] ys i fits = absurd (omega arith)
 get_left (x ∷ xs) ys zero fits = refl
 get_left (x ∷ xs) ys (suc i) fits = get_left xs ys i (omega arith)
 
-get_right : {X : Type 0} (xs ys : List X) (i n : ℕ) → i ≡ length xs + n → slice_get (xs ++ ys) i ≡ slice_get ys n
+pub get_right : {X : Type 0} (xs ys : List X) (i n : ℕ) → i ≡ length xs + n → slice_get (xs ++ ys) i ≡ slice_get ys n
 get_right [] ys i n e = let is : i ≡ n = omega arith in ap (slice_get ys) is
 get_right (x ∷ xs) ys zero n e = absurd (omega arith)
 get_right (x ∷ xs) ys (suc i) n e = get_right xs ys i n (omega arith)
 
 -- ---- the places of one shard
 
-at_range : {X : Type 0} (f : ℕ → X) (a n i : ℕ) → i < n → slice_get (map f (range_with_len a n)) i ≡ Some (f (a + i))
+pub at_range : {X : Type 0} (f : ℕ → X) (a n i : ℕ) → i < n → slice_get (map f (range_with_len a n)) i ≡ Some (f (a + i))
 at_range f a zero i fits = absurd (omega arith)
 at_range f a (suc n) zero fits = let same : a ≡ a + 0 = omega arith in ap (λ k. Some (f k)) same
 at_range f a (suc n) (suc i) fits = let same : a + 1 + i ≡ a + suc i = omega arith in at_range f (a + 1) n i (omega arith) ∙ ap (λ k. Some (f k)) same

@@ -1,9 +1,8 @@
 -- The layers of a batch: what takes the rows of each shard from those of one table to those of another.
 use Rattle.std.specs.Prelude.{◌≡◌, ℕ, ◌+◌, ◌*◌, ◌≤◌, List, [], ◌∷◌, ◌++◌, map}
 use Rattle.std.specs.List.{AllZip, range_with_len}
-use Rattle.std.specs.Option.{option_map_or}
 use Rattle.uni_schema.specs.declared.schema.VerticalDef.{VerticalDef}
-use Rattle.uni_schema.specs.Schema.{Declarations, vertical_at}
+use Rattle.uni_schema.specs.Schema.{Declarations}
 use Rattle.uni_table.specs.Contents.{Contents}
 use Rattle.uni_table.specs.TableState.{TableState}
 use Rattle.shard_index.specs.Rows.{ShardChanges, layer_over, entries}
@@ -29,10 +28,6 @@ shards_from vertical (declared ∷ verticals) = shards_of vertical declared ++ s
 abbrev pub all_shards : Declarations → List ShardPlace
 all_shards schema = shards_from 0 schema.verticals
 
--- the shards of a vertical of a schema
-abbrev pub shards_at : Declarations → ℕ → List ShardPlace
-shards_at schema vertical = option_map_or (shards_of vertical) (vertical_at schema vertical) []
-
 -- a layer takes the rows of a shard of one table to those of another, and has at most two entries for each row
 -- that differs
 pub record TakesOver (schema : Declarations) (old new : Contents) (place : ShardPlace) (layer : ShardChanges) : Type 0 where
@@ -43,9 +38,3 @@ pub record TakesOver (schema : Declarations) (old new : Contents) (place : Shard
 -- they are now
 abbrev pub TakeOver : TableState → List ShardPlace → List ShardChanges → Type 0
 TakeOver table places layers = AllZip (TakesOver table.schema table.published table.contents) places layers
-
--- layers with one more for each of some shards at their end
-pub record TakesMore (table : TableState) (places : List ShardPlace) (old new : List ShardChanges) : Type 0 where
-  pub added : List ShardChanges
-  pub is : new ≡ old ++ added
-  pub takes : TakeOver table places added

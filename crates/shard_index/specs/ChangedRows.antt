@@ -123,6 +123,11 @@ abbrev pub changed_record : Declarations → ℕ → ℕ → EdgeChange → Opti
 changed_record schema vertical shard change =
     if same_audiences (audience_of change.before) (audience_of change.after) then None else record_within schema vertical shard change.edge
 
+-- the same of a forward edge that the shard keeps
+abbrev pub changed_key : EdgeChange → Option RecordKey
+changed_key change =
+    if same_audiences (audience_of change.before) (audience_of change.after) then None else option_map (λ id. record_key change.edge.type_no id) (source_of change.edge.key)
+
 -- whether a key is that of a record
 abbrev pub is_record : RecordKey → Option RecordKey → Bool
 is_record key None = false
@@ -147,6 +152,11 @@ row_item row = record { target = row.0; audience = row.1 }
 abbrev pub replacing_new : Contents → Records → Option RecordKey → Option RecordKey → Records
 replacing_new table records last None = records
 replacing_new table records last (Some key) = if is_record key last then records else finite.insert records key (items_of table key)
+
+-- the later of two records, if there is one
+abbrev pub latest : Option RecordKey → Option RecordKey → Option RecordKey
+latest last None = last
+latest last (Some key) = if is_record key last then last else Some key
 
 -- the records that change with some edges, each as a table has it, and no others
 abbrev pub AreShardRecords : Declarations → ℕ → ℕ → Contents → List EdgeChange → Records → Type 0

@@ -5,6 +5,8 @@ pub mod Differences
 pub mod Entities
 pub mod Joined
 pub mod Laws
+pub mod Notes
+pub mod Numbers
 pub mod Places
 pub mod Rows
 pub mod Shards

@@ -1,70 +1,104 @@
-//! What a batch changed of the entities of a shard.
-ghost use Rattle.std.specs.Prelude.{◌≡◌, ◌<◌, length, IfOk, OnOk};
-ghost use Rattle.shard_index.specs.ChangedRows.{rank_within, moving, shard_entities};
+//! What a batch changed of the entities of shards.
+ghost use Rattle.std.specs.Prelude.{◌≡◌, [], ◌∷◌, length, OnOk};
+ghost use Rattle.shard_index.specs.Batches.{all_shards};
+ghost use Rattle.shard_index.specs.Numbers.{AreFirsts};
+ghost use Rattle.shard_index.specs.Notes.{row_left, row_taken, NotesEntities, NotesRemovals, NotesPuts};
 
-use crate::{EntityDelta, EntityLayer};
-use std::alloc::{AllocError, Global};
-use uni_base::{EntityId, Rank};
-use uni_schema::Schema;
-use uni_table::{EntityChange, EntityRow};
+use crate::batch::notes::ShardNotes;
+use crate::batch::numbers::shard_no;
+use std::alloc::AllocError;
+use uni_table::{EntityChange, EntityRow, Table};
 
-/// The layer of the entities of a shard that changed.
-pub(super) fn shard_entities(
-    alloc: Global,
-    schema: &Schema,
-    vertical: u16,
-    shard: u32,
+/// Notes changes of entities, each in the shards in which the entity was and is.
+pub(super) fn note_entities(
+    table: &Table,
+    firsts: &[usize],
     changes: &[EntityChange],
-) -> Result<EntityLayer, AllocError>
-    requires { vertical < length schema.now.verticals }
-    ensures { IfOk result (λ layer. layer ≡ shard_entities schema.now vertical shard changes.now) }
-{
-    let mut delta = EntityDelta::new(alloc);
-    for change in changes {
-        let was = rank_within(schema, vertical, shard, change.id, change.before);
-        let now = rank_within(schema, vertical, shard, change.id, change.after);
-        note(&mut delta, change.id, was, now)?;
-    }
-    EntityLayer::build(delta)
-}
-
-// The rank of an entity with a row. None where the row is of another shard.
-fn rank_within(
-    schema: &Schema,
-    vertical: u16,
-    shard: u32,
-    id: EntityId,
-    row: Option<EntityRow>,
-) -> Option<Rank>
-    requires { vertical < length schema.now.verticals }
-    ensures { result ≡ rank_within schema.now vertical shard id row }
-{
-    let row = row?;
-    if row.vertical == vertical && schema.shard_of(vertical, id) == shard {
-        Some(row.rank)
-    } else {
-        None
-    }
-}
-
-// Notes that an entity was at a rank and is at a rank now, where it was or is one.
-fn note(
-    delta: &mut EntityDelta,
-    id: EntityId,
-    was: Option<Rank>,
-    now: Option<Rank>,
+    notes: &mut [ShardNotes],
 ) -> Result<(), AllocError>
-    ensures { OnOk result (delta.new ≡ moving delta.old id was now) }
+    requires firsts { AreFirsts table.now.schema firsts.now }
+    requires count { length notes.old ≡ length (all_shards table.now.schema) }
+    ensures count { length notes.new ≡ length notes.old }
+    ensures noted { OnOk result (NotesEntities table.now changes.now notes.old notes.new) }
 {
-    match (was, now) {
-        (None, None) => Ok(()),
-        (Some(_), None) => delta.remove(id),
-        (None, Some(now)) => delta.put(id, now),
+    for change in changes {
+        note_removal(table, firsts, change, notes)?;
+        note_put(table, firsts, change, notes)?;
+    }
+    Ok(())
+}
+
+// Notes the removal of an entity from the shard in which it was, unless it is still there.
+fn note_removal(
+    table: &Table,
+    firsts: &[usize],
+    change: &EntityChange,
+    notes: &mut [ShardNotes],
+) -> Result<(), AllocError>
+    requires firsts { AreFirsts table.now.schema firsts.now }
+    requires count { length notes.old ≡ length (all_shards table.now.schema) }
+    ensures count { length notes.new ≡ length notes.old }
+    ensures noted { OnOk result (NotesRemovals table.now (change.now ∷ []) notes.old notes.new) }
+{
+    let Some(row) = row_left(change) else {
+        return Ok(());
+    };
+    if let Some(number) = shard_no(table.schema(), firsts, row.vertical, change.id) {
+        notes[number].remove(change.id)?;
+    }
+    Ok(())
+}
+
+// Notes an entity in the shard in which it is, unless it was there at the same rank.
+fn note_put(
+    table: &Table,
+    firsts: &[usize],
+    change: &EntityChange,
+    notes: &mut [ShardNotes],
+) -> Result<(), AllocError>
+    requires firsts { AreFirsts table.now.schema firsts.now }
+    requires count { length notes.old ≡ length (all_shards table.now.schema) }
+    ensures count { length notes.new ≡ length notes.old }
+    ensures noted { OnOk result (NotesPuts table.now (change.now ∷ []) notes.old notes.new) }
+{
+    let Some(row) = row_taken(change) else {
+        return Ok(());
+    };
+    if let Some(number) = shard_no(table.schema(), firsts, row.vertical, change.id) {
+        notes[number].put(change.id, row.rank)?;
+    }
+    Ok(())
+}
+
+// The row that an entity had, where it is none of that vertical now.
+fn row_left(change: &EntityChange) -> Option<EntityRow>
+    ensures { result ≡ row_left change.now.before change.now.after }
+{
+    match (change.before, change.after) {
+        (None, _) => None,
+        (Some(was), None) => Some(was),
         (Some(was), Some(now)) => {
-            if was == now {
-                Ok(())
+            if was.vertical == now.vertical {
+                None
             } else {
-                delta.put(id, now)
+                Some(was)
+            }
+        }
+    }
+}
+
+// The row that an entity has, where it was none of that vertical with that rank.
+fn row_taken(change: &EntityChange) -> Option<EntityRow>
+    ensures { result ≡ row_taken change.now.before change.now.after }
+{
+    match (change.before, change.after) {
+        (_, None) => None,
+        (None, Some(now)) => Some(now),
+        (Some(was), Some(now)) => {
+            if was.vertical == now.vertical && was.rank == now.rank {
+                None
+            } else {
+                Some(now)
             }
         }
     }

@@ -1,55 +1,19 @@
-//! What a batch changed of the postings of a shard.
-ghost use Rattle.std.specs.Prelude.{◌≡◌, ◌<◌, Some, length, IfOk, OnOk};
-ghost use Rattle.std.specs.List.{All};
+//! What a batch changed of a posting.
+ghost use Rattle.std.specs.Prelude.{◌≡◌, Some, OnOk};
 ghost use Rattle.std.specs.Ordering.{eq_by_cmp};
 ghost use Rattle.layer_stack.specs.Places.{place_cmp};
 ghost use Rattle.layer_stack.specs.Postings.{deleting, putting};
-ghost use Rattle.shard_index.specs.ChangedRows.{same_audience, is_posted, posting_for, turning, with_change, shard_postings};
-ghost use Rattle.shard_index.specs.Split.{told};
+ghost use Rattle.shard_index.specs.ChangedRows.{same_audience, posting_for, turning, with_change};
 
-use layer_stack::{Delta, Layer, Place, TermKey};
+use layer_stack::{Delta, Place, TermKey};
 use posting_lists::Posting;
-use std::alloc::{AllocError, Global};
+use std::alloc::AllocError;
 use uni_base::{Audience, DocKey, EdgeRef, Rank};
-use uni_schema::{Schema, Store};
 use uni_table::{EdgeChange, EdgeRow};
 
-/// The layer of the postings of a shard that changed. Each change says where its posting was and is, so
+/// Notes what became of the posting of an index edge. The change says where it was and where it is, so
 /// nothing is looked up.
-pub(super) fn shard_postings(
-    alloc: Global,
-    schema: &Schema,
-    vertical: u16,
-    shard: u32,
-    changes: &[&EdgeChange],
-) -> Result<Layer, AllocError>
-    requires vertical { vertical < length schema.now.verticals }
-    requires declared { All (λ c. c.edge.type_no < length schema.now.types) (told changes.now) }
-    ensures { IfOk result (λ layer. layer ≡ shard_postings schema.now vertical shard (told changes.now)) }
-{
-    let mut delta = Delta::new(alloc);
-    for change in changes {
-        if is_posted(schema, vertical, shard, &change.edge) {
-            note_change(&mut delta, change)?;
-        }
-    }
-    Layer::build(alloc, delta)
-}
-
-// Whether an edge is an index edge into a shard of a vertical.
-fn is_posted(schema: &Schema, vertical: u16, shard: u32, edge: &EdgeRef) -> bool
-    requires vertical { vertical < length schema.now.verticals }
-    requires declared { edge.now.type_no < length schema.now.types }
-    ensures { result ≡ is_posted schema.now vertical shard edge.now }
-{
-    let type_def = schema.type_def(edge.type_no);
-    type_def.store == Store::Index
-        && type_def.target == vertical
-        && schema.shard_of(vertical, edge.target) == shard
-}
-
-// Notes what became of the posting of an edge.
-fn note_change(delta: &mut Delta, change: &EdgeChange) -> Result<(), AllocError>
+pub(super) fn note_posting(delta: &mut Delta, change: &EdgeChange) -> Result<(), AllocError>
     ensures { OnOk result (delta.new ≡ with_change delta.old change.now) }
 {
     let was = posting(&change.edge, change.rank_before, change.before);

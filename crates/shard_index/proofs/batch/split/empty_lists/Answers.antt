@@ -1,7 +1,0 @@
-use Rattle.std.proofs.Common.{ap, ◌∙◌}
-use Rattle.shard_index.specs.Split.{lists_of}
-use Rattle.shard_index.proofs.SplitLists.{empty_more}
-use Rattle.shard_index.proofs.batch.split.empty_lists.Goals as goal
-
-pub loop-preserved : goal.loop-preserved
-loop-preserved g c = ap lists_of c.in_ok-push.ensures.items ∙ empty_more c.loop.lists.items c.new.result c.loop.counter c.loop.invariant c.new.ensures.items

@@ -1,7 +1,0 @@
-use Rattle.std.proofs.Common.{◌≡◌, take}
-use Rattle.shard_index.specs.Places.{shards_in}
-use Rattle.shard_index.specs.Split.{lists_of, shard_of_entity, split_by}
-use Rattle.shard_index.proofs.batch.split.split_entities.Given as goal
-
-abbrev pub invariant-loop-change : goal.invariant-loop-change
-invariant-loop-change l = lists_of l.lists.items ≡ split_by (shard_of_entity l.schema l.vertical) (shards_in l.schema l.vertical) (take l.change-index l.changes)

@@ -1,0 +1,87 @@
+//! What is noted of each shard as the changes of a batch are gone through.
+ghost use Rattle.std.specs.Prelude.{◌≡◌, length, replicate, IfOk, OnOk};
+ghost use Rattle.shard_index.specs.Batches.{all_shards};
+ghost use Rattle.shard_index.specs.Numbers.{AreFirsts};
+ghost use Rattle.shard_index.specs.Notes.{no_notes, with_removal, with_put, noted_layer};
+
+use crate::{EntityDelta, EntityLayer, ShardLayer};
+use forward_data::{ForwardDelta, ForwardLayer, RecordKey};
+use layer_stack::{Delta, Layer};
+use std::alloc::{AllocError, Global};
+use std::sync::Arc;
+use uni_base::{EntityId, Rank};
+use uni_schema::Schema;
+
+/// The parts of a shard's layer as they come in, and the record that was replaced last.
+#[derive(Drop)]
+pub(super) struct ShardNotes {
+    pub(super) entities: EntityDelta,
+    pub(super) postings: Delta,
+    pub(super) records: ForwardDelta,
+    pub(super) last: Option<RecordKey>,
+}
+
+impl ShardNotes {
+    // Nothing noted.
+    fn new(alloc: Global) -> ShardNotes
+        ensures { result ≡ no_notes }
+    {
+        ShardNotes {
+            entities: EntityDelta::new(alloc),
+            postings: Delta::new(alloc),
+            records: ForwardDelta::new(alloc),
+            last: None,
+        }
+    }
+
+    /// Notes that an entity is no longer in the shard.
+    pub(super) fn remove(&mut self, id: EntityId) -> Result<(), AllocError>
+        ensures { OnOk result (self.new ≡ with_removal self.old id) }
+    {
+        self.entities.remove(id)
+    }
+
+    /// Notes that an entity is in the shard at a rank.
+    pub(super) fn put(&mut self, id: EntityId, rank: Rank) -> Result<(), AllocError>
+        ensures { OnOk result (self.new ≡ with_put self.old id rank) }
+    {
+        self.entities.put(id, rank)
+    }
+
+    /// The layer of what was noted.
+    pub(super) fn layer(self, alloc: Global) -> Result<ShardLayer, AllocError>
+        ensures { IfOk result (λ layer. layer ≡ noted_layer self) }
+    {
+        let ShardNotes {
+            entities,
+            postings,
+            records,
+            last: _,
+        } = self;
+        let entities = EntityLayer::build(entities)?;
+        let postings = Layer::build(alloc, postings)?;
+        let forward = ForwardLayer::build(records)?;
+        Ok(ShardLayer::join(
+            Arc::new(alloc, entities)?,
+            Arc::new(alloc, postings)?,
+            Arc::new(alloc, forward)?,
+        ))
+    }
+}
+
+/// Nothing noted of any shard.
+pub(super) fn empty_notes(
+    alloc: Global,
+    schema: &Schema,
+    firsts: &[usize],
+) -> Result<Vec<ShardNotes>, AllocError>
+    requires { AreFirsts schema.now firsts.now }
+    ensures { IfOk result (λ notes. notes.items ≡ replicate (length (all_shards schema.now)) no_notes) }
+{
+    let count = firsts[schema.verticals() as usize];
+    let mut notes = Vec::with_capacity(alloc, count)?;
+    for _ in 0..count {
+        notes.push(ShardNotes::new(alloc))?;
+    }
+    Ok(notes)
+}
