@@ -56,7 +56,7 @@ fn feed_line<R: Wait, G: Gate>(
     ensures fed { IsFedLine (terms_of catalogue.now) (feed_of feeder.old) (feed_entry item.now) result (feed_of feeder.new) }
 {
     match item {
-        Item::Change(line, command) => feed_change(feeder, *line, command),
+        Item::Change(line, command) => feed_change(feeder, *line, &command.command()),
         Item::Publish(line) => Some(feed_publish(rt, catalogue, feeder, *line, gate)),
         _ => None,
     }

@@ -65,12 +65,15 @@ fn ask_query(
     ensures fits { ItemFits terms.now result }
 {
     match typed_query(terms, text) {
-        Ok(query) => Item::Ask {
-            line,
-            session,
-            viewer,
-            limit,
-            query,
+        Ok(query) => match Box::new(terms.alloc(), query) {
+            Ok(query) => Item::Ask {
+                line,
+                session,
+                viewer,
+                limit,
+                query,
+            },
+            Err(_) => Item::Memory(line),
         },
         Err(QueryRefusal::Fault { code, column }) => Item::QueryFault(line, code, column),
         Err(QueryRefusal::Memory) => Item::Memory(line),

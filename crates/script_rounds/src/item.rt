@@ -1,23 +1,24 @@
 ghost use Rattle.std.specs.Prelude.{◌≡◌};
 
+use packed_command::PackedCommand;
 use query_check::Checked;
 use uni_base::{EntityId, Rows};
-use uni_table::Command;
 
 /// What a line of a round is that counts, with the line's number first.
 #[derive(Debug, Drop)]
 pub enum Item {
     /// A change of the table.
-    Change(u64, Command),
+    Change(u64, PackedCommand),
     /// The changes so far become a version.
     Publish(u64),
-    /// A query, which a session asks for a viewer, for at most so many hits.
+    /// A query, which a session asks for a viewer, for at most so many hits. It lies in a box, since few items
+    /// are queries.
     Ask {
         line: u64,
         session: u32,
         viewer: EntityId,
         limit: u32,
-        query: Checked,
+        query: Box<Checked>,
     },
     /// The layers of a stack become one: its vertical, shard and replica.
     Compact(u64, u16, u32, u32),

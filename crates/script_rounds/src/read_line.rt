@@ -1,4 +1,4 @@
-ghost use Rattle.std.specs.Prelude.{◌≡◌, ◌≤◌, length};
+ghost use Rattle.std.specs.Prelude.{◌≡◌, ◌≤◌, IfOk, length};
 ghost use Rattle.script_rounds.specs.Entries.{IsItemOf};
 ghost use Rattle.feed_reader.specs.Names.{AreOf};
 ghost use Rattle.feed_reader.specs.Reading.{feed_line_of};
@@ -11,6 +11,8 @@ use crate::fault::{LINE_TOO_LONG, TOO_MANY_LINES};
 use crate::item::{Item, RoundLine};
 use crate::terms::Terms;
 use feed_reader::{FeedLine, LastNames, read_next_feed_line};
+use packed_command::PackedCommand;
+use std::alloc::AllocError;
 use uni_base::is_skipped;
 
 /// What a line is, by its number in the script and by how many lines of its round counted before it.
@@ -21,69 +23,89 @@ pub(crate) fn read_line(
     number: u64,
     before: u64,
     line: &[u8],
-) -> RoundLine
+) -> Result<RoundLine, AllocError>
     requires { AreOf terms.now.schema names.old }
-    ensures line { IsLineOf (role_of terms.now number before line.now) result }
-    ensures fits { LineFits terms.now result }
+    ensures line { IfOk result (IsLineOf (role_of terms.now number before line.now)) }
+    ensures fits { IfOk result (LineFits terms.now) }
     ensures names { AreOf terms.now.schema names.new }
 {
     if line == b"go".as_slice() {
-        RoundLine::Go
+        Ok(RoundLine::Go)
     } else if is_skipped(line) {
-        RoundLine::Skipped
+        Ok(RoundLine::Skipped)
     } else if before > terms.limits().round {
-        RoundLine::Skipped
+        Ok(RoundLine::Skipped)
     } else {
-        RoundLine::Item(read_counted(terms, names, number, before, line))
+        let item = read_counted(terms, names, number, before, line)?;
+        Ok(RoundLine::Item(item))
     }
 }
 
 // A line that counts.
-fn read_counted(terms: &Terms, names: &mut LastNames, number: u64, before: u64, line: &[u8]) -> Item
+fn read_counted(
+    terms: &Terms,
+    names: &mut LastNames,
+    number: u64,
+    before: u64,
+    line: &[u8],
+) -> Result<Item, AllocError>
     requires { AreOf terms.now.schema names.old }
-    ensures item { IsItemOf (counted_entry terms.now number before line.now) result }
-    ensures fits { ItemFits terms.now result }
+    ensures item { IfOk result (IsItemOf (counted_entry terms.now number before line.now)) }
+    ensures fits { IfOk result (ItemFits terms.now) }
     ensures names { AreOf terms.now.schema names.new }
 {
     if line.len() as u64 > terms.limits().line {
-        Item::Fault(number, LINE_TOO_LONG)
+        Ok(Item::Fault(number, LINE_TOO_LONG))
     } else if before >= terms.limits().round {
-        Item::Fault(number, TOO_MANY_LINES)
+        Ok(Item::Fault(number, TOO_MANY_LINES))
     } else {
         read_form(terms, names, number, line)
     }
 }
 
 // A line that counts, by its form.
-fn read_form(terms: &Terms, names: &mut LastNames, number: u64, line: &[u8]) -> Item
+fn read_form(
+    terms: &Terms,
+    names: &mut LastNames,
+    number: u64,
+    line: &[u8],
+) -> Result<Item, AllocError>
     requires names { AreOf terms.now.schema names.old }
     requires short { length line.now ≤ 65536 }
-    ensures item { IsItemOf (form_entry terms.now number line.now) result }
-    ensures fits { ItemFits terms.now result }
+    ensures item { IfOk result (IsItemOf (form_entry terms.now number line.now)) }
+    ensures fits { IfOk result (ItemFits terms.now) }
     ensures names { AreOf terms.now.schema names.new }
 {
     let (word, rest) = first_field(line);
     if word == b"ask".as_slice() {
-        read_ask(terms, number, rest)
+        Ok(read_ask(terms, number, rest))
     } else if word == b"compact".as_slice() {
-        read_compact(terms, number, rest)
+        Ok(read_compact(terms, number, rest))
     } else if line == b"stats".as_slice() {
-        Item::Stats(number)
+        Ok(Item::Stats(number))
     } else {
         read_feed(terms, names, number, line)
     }
 }
 
 // A line of the feed.
-fn read_feed(terms: &Terms, names: &mut LastNames, number: u64, line: &[u8]) -> Item
+fn read_feed(
+    terms: &Terms,
+    names: &mut LastNames,
+    number: u64,
+    line: &[u8],
+) -> Result<Item, AllocError>
     requires { AreOf terms.now.schema names.old }
-    ensures item { IsItemOf (feed_entry number (feed_line_of terms.now.schema line.now)) result }
-    ensures fits { ItemFits terms.now result }
+    ensures item { IfOk result (IsItemOf (feed_entry number (feed_line_of terms.now.schema line.now))) }
+    ensures fits { IfOk result (ItemFits terms.now) }
     ensures names { AreOf terms.now.schema names.new }
 {
-    match read_next_feed_line(terms.schema(), names, line) {
-        Ok(FeedLine::Change(command)) => Item::Change(number, command),
+    Ok(match read_next_feed_line(terms.schema(), names, line) {
+        Ok(FeedLine::Change(command)) => {
+            let command = PackedCommand::of(terms.alloc(), &command)?;
+            Item::Change(number, command)
+        }
         Ok(FeedLine::Publish) => Item::Publish(number),
         Err(fault) => Item::Refused(number, fault.code()),
-    }
+    })
 }

@@ -74,7 +74,9 @@ fn take_line<S: Source>(
         return Ok(None);
     };
     let number = reader.lines() + 1;
-    let line = read_line(terms, names, number, before, reader.front(len));
+    let Ok(line) = read_line(terms, names, number, before, reader.front(len)) else {
+        return Err(ScriptRefusal::Memory);
+    };
     reader.pass(len);
     Ok(Some(line))
 }

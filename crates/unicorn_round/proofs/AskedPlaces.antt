@@ -1,5 +1,5 @@
 -- The asks of a round by the places of their sessions.
-use Rattle.std.proofs.Common.{◌≡◌, ◌+◌, ◌==◌, ℕ, Bool, true, false, List, ◌∷◌, drop, Some, None, if◌then◌else◌, refl, ap, sym, subst, arith}
+use Rattle.std.proofs.Common.{Box, Global, ◌≡◌, ◌+◌, ◌==◌, ℕ, Bool, true, false, List, ◌∷◌, drop, Some, None, if◌then◌else◌, refl, ap, sym, subst, arith}
 use Rattle.std.specs.List.{cons_option}
 use Rattle.std.proofs.lemmas.Bool.Decides.{nat_tests}
 use Rattle.query_check.specs.declared.checked.Checked.{Checked}
@@ -26,9 +26,9 @@ popped-same place asked = ap (λ b. if b then drop 1 (asked place) else asked pl
 pub popped-other : (place other : ℕ) (asked : ℕ → List Answer) → (other == place) ≡ false → popped place asked other ≡ asked other
 popped-other place other asked apart = ap (λ b. if b then drop 1 (asked other) else asked other) apart
 
-module _ (place line session viewer limit : ℕ) (query : Checked) (at_place : session ≡ place + 1) where
+module _ (place line session viewer limit : ℕ) (query : Box Checked Global) (at_place : session ≡ place + 1) where
   abbrev pub ask_line : AskLine
-  ask_line = record { line = line; viewer = viewer; limit = limit; query = query }
+  ask_line = record { line = line; viewer = viewer; limit = limit; query = query.value }
 
   -- what holds of the session's place and of each other holds of all
   pub by_place : (P : ℕ → Type 0) → P place → ((other : ℕ) → (other == place) ≡ false → (session == other + 1) ≡ false → P other) → (other : ℕ) → P other

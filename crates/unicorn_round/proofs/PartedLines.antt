@@ -81,7 +81,7 @@ module _ (terms : Terms) where
       other : (b : Bool) → (session == place + 1) ≡ b → b ≡ true → session ≡ place + 1
       other b is told = grind (arith, nat_tests)
 
-      by : (b : Bool) → (session == place + 1) ≡ b → cons_option {X = AskLine} (if b then Some (record { line = line; viewer = viewer; limit = limit; query = query }) else None) [] ≡ []
+      by : (b : Bool) → (session == place + 1) ≡ b → cons_option {X = AskLine} (if b then Some (record { line = line; viewer = viewer; limit = limit; query = query.value }) else None) [] ≡ []
       by true is = absurd (omega (arith, other true is refl, fit.0.session_to, past))
       by false is = refl
   none_past place (Change line command ∷ items) fit past = none_past place items fit.1 past
@@ -105,8 +105,8 @@ module _ (terms : Terms) where
   asks_typed laws place [] fit = tt
   asks_typed laws place (Ask line session viewer limit query ∷ items) fit = by (session == place + 1) (asks_typed laws place items fit.1)
     where
-      by : (b : Bool) → AllByRecursion (IsAsk terms.schema) (asks_at place items) → AllByRecursion (IsAsk terms.schema) (cons_option (if b then Some (record { line = line; viewer = viewer; limit = limit; query = query }) else None) (asks_at place items))
-      by true rest = (asked laws query fit.0.asks, rest)
+      by : (b : Bool) → AllByRecursion (IsAsk terms.schema) (asks_at place items) → AllByRecursion (IsAsk terms.schema) (cons_option (if b then Some (record { line = line; viewer = viewer; limit = limit; query = query.value }) else None) (asks_at place items))
+      by true rest = (asked laws query.value fit.0.asks, rest)
       by false rest = rest
   asks_typed laws place (Change line command ∷ items) fit = asks_typed laws place items fit.1
   asks_typed laws place (Publish line ∷ items) fit = asks_typed laws place items fit.1

@@ -1,5 +1,5 @@
 -- The answers of a round, put together line by line: one line more.
-use Rattle.std.proofs.Common.{◌≡◌, ◌≤◌, ◌+◌, ◌==◌, ℕ, Bool, true, false, List, [], ◌∷◌, ◌++◌, map, drop, refl, ap, sym, ◌∙◌, subst, arith}
+use Rattle.std.proofs.Common.{Box, Global, ◌≡◌, ◌≤◌, ◌+◌, ◌==◌, ℕ, Bool, true, false, List, [], ◌∷◌, ◌++◌, map, drop, refl, ap, sym, ◌∙◌, subst, arith}
 use Rattle.std.proofs.lemmas.Bool.Decides.{nat_tests}
 use Rattle.query_check.specs.Plan.{stated_of}
 use Rattle.query_check.specs.declared.checked.Checked.{Checked}
@@ -150,10 +150,10 @@ module _ (terms : Terms) (end : Standing) where
       (reading_lacks entry is.0) tt (after_lacking terms s entry) (ap (λ n. answer.Memory n ∷ []) is.1) (λ slots fed. refl) w
 
   -- one `ask` more, of the session at a place
-  pub ask_woven : (s : Standing) (place line session viewer limit : ℕ) (query : Checked) (entries : List Entry) (items : List Item) (lacks : List Bool) (asked : ℕ → List Answer) (compacted : List Answer) (low : ℕ)
+  pub ask_woven : (s : Standing) (place line session viewer limit : ℕ) (query : Box Checked Global) (entries : List Entry) (items : List Item) (lacks : List Bool) (asked : ℕ → List Answer) (compacted : List Answer) (low : ℕ)
       → session ≡ place + 1 → AreReplied terms.schema end.feed.journal low (asks_at place (Ask line session viewer limit query ∷ items)) (asked place)
       → AreWoven terms end s entries (lines_of items) lacks (popped place asked) compacted low
-      → AreWoven terms end s (ask line session viewer limit (stated_of query).plan ∷ entries)
+      → AreWoven terms end s (ask line session viewer limit (stated_of query.value).plan ∷ entries)
       (record { slots = slot.Ask place ∷ map slot_of items; feeds = feed_entries (feed_items items); asks = λ other. asks_at other (Ask line session viewer limit query ∷ items); compacting = compactions items })
       lacks asked compacted low
   ask_woven s place line session viewer limit query entries items lacks asked compacted low at_place all w = record {
@@ -163,7 +163,7 @@ module _ (terms : Terms) (end : Standing) where
     covers = w.covers;
     answers =
         ap (λ first. first ++ merged (shown_at end) (map slot_of items) (fed_to terms s.feed (feed_entries (feed_items items)) lacks) (popped place asked) compacted)
-        (reply_is terms end s.feed low line session viewer limit query (asks_at place items) (asked place) (same low all))
+        (reply_is terms end s.feed low line session viewer limit query.value (asks_at place items) (asked place) (same low all))
         ∙ ap (λ more. entry_answers terms (replies terms.schema) end s.feed entry mark ++ more) w.answers;
     within = replied_within terms.schema end.feed.journal low one (asks_at place items) (asked place) w.marks (same low all) w.within;
     no_session = numbers_failing (asks_in 0) entry entries w.marks mark (grind (arith, nat_tests, at_place)) ∙ w.no_session;
@@ -173,7 +173,7 @@ module _ (terms : Terms) (end : Standing) where
   }
     where
       entry : Entry
-      entry = ask line session viewer limit (stated_of query).plan
+      entry = ask line session viewer limit (stated_of query.value).plan
 
       one : AskLine
       one = ask_line place line session viewer limit query at_place

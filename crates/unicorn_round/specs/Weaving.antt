@@ -26,7 +26,7 @@ is_compaction item = false
 
 -- the ask of a line, where it is one of the session at a place: places count from 0, and sessions from 1
 abbrev pub ask_at : ℕ → Item → Option AskLine
-ask_at place (Ask line session viewer limit query) = if session == place + 1 then Some (record { line = line; viewer = viewer; limit = limit; query = query }) else None
+ask_at place (Ask line session viewer limit query) = if session == place + 1 then Some (record { line = line; viewer = viewer; limit = limit; query = query.value }) else None
 ask_at place item = None
 
 -- the lines of each, in order

@@ -73,7 +73,7 @@ impl Checker {
             → EntryChecked self.old.terms s entry self.new (option_to_list result) }
     {
         match item {
-            Item::Change(line, command) => self.change(*line, command),
+            Item::Change(line, command) => self.change(*line, &command.command()),
             Item::Publish(line) => self.publish(*line),
             Item::Ask { .. } | Item::Compact(..) | Item::Stats(_) => None,
             Item::Refused(line, code) => Some(Answer::Refused(*line, *code)),

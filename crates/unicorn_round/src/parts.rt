@@ -30,7 +30,8 @@ impl Parts {
         }
         let mut parts = Parts::new(alloc, sessions)?;
         for item in items.into_vec() {
-            parts.add(item)?;
+            let slot = slot_of(&item);
+            parts.add(slot, item)?;
         }
         Ok(parts)
     }
@@ -66,12 +67,13 @@ impl Parts {
         })
     }
 
-    // One line more.
-    fn add(&mut self, item: Item) -> Result<(), AllocError>
-        requires { IsFor (length self.old.asks.items) item }
+    // One line more, with the slot that it leaves.
+    fn add(&mut self, slot: Slot, item: Item) -> Result<(), AllocError>
+        requires slot { slot ≡ slot_of item }
+        requires of { IsFor (length self.old.asks.items) item }
         ensures { OnOk result (AddsLine (length self.old.asks.items) item self.old self.new) }
     {
-        self.slots.push(slot_of(&item))?;
+        self.slots.push(slot)?;
         match item {
             Item::Change(..) | Item::Publish(_) => self.feed.push(item),
             Item::Compact(..) => self.compactions.push(item),
@@ -85,7 +87,7 @@ impl Parts {
                 line,
                 viewer,
                 limit,
-                query,
+                query: Box::into_inner(query),
             }),
             _ => Ok(()),
         }

@@ -17,6 +17,7 @@ mod round;
 use crate::answering::Answering;
 use crate::refusal::{PublishRefusal, TOO_MANY_PUBLISHES};
 use crate::stacks::Stacks;
+use packed_command::PackedCommand;
 use query_check::Checked;
 use reply_text::{Answer, StackRows};
 use script_rounds::{Item, ItemList};
@@ -36,7 +37,7 @@ pub(crate) struct Serial {
     alloc: Global,
     limits: Limits,
     pending: Table,
-    batch: Vec<Command>,
+    batch: Vec<PackedCommand>,
     published: Table,
     publishes: u64,
     stacks: Stacks,
@@ -96,7 +97,7 @@ impl Serial {
             → Answered self.old.terms s entry self.new (option_to_list answer)) }
     {
         Ok(match item {
-            Item::Change(line, command) => self.change(*line, command),
+            Item::Change(line, command) => self.change(*line, &command.command()),
             Item::Publish(line) => Some(self.publish(*line)?),
             Item::Ask {
                 line,
@@ -143,7 +144,8 @@ impl Serial {
             ⊎ (refuses self.old.terms.schema self.old.terms.limits self.old.pending command.now ≡ Some refusal)) }
         ensures err { OnErr result (self.new ≡ self.old) }
     {
-        if add(&mut self.batch, *command).is_err() {
+        let packed = PackedCommand::of(self.alloc, command)?;
+        if add(&mut self.batch, packed).is_err() {
             return Err(FeedRefusal::Memory);
         }
         let put = self.pending.put(command);
@@ -251,7 +253,7 @@ impl Answering for Serial {
 }
 
 // An item at the end of others.
-fn add<T: Copy + Drop>(items: &mut Vec<T>, item: T) -> Result<(), AllocError>
+fn add<T: Drop>(items: &mut Vec<T>, item: T) -> Result<(), AllocError>
     ensures ok { OnOk result (items.new.items ≡ items.old.items ++ item ∷ []) }
     ensures err { OnErr result (items.new.items ≡ items.old.items) }
 {
@@ -260,13 +262,13 @@ fn add<T: Copy + Drop>(items: &mut Vec<T>, item: T) -> Result<(), AllocError>
 }
 
 // Commands are put into a table, one after the other.
-fn put_all(table: &mut Table, commands: &[Command]) -> Result<(), AllocError>
+fn put_all(table: &mut Table, commands: &[PackedCommand]) -> Result<(), AllocError>
     requires { All (IsDeclared table.old.schema) commands.now }
     ensures kept { (table.new.schema ≡ table.old.schema) × (table.new.limits ≡ table.old.limits) }
     ensures ok { OnOk result (table.new ≡ record table.old { contents = after_commands table.old.schema table.old.contents commands.now }) }
 {
     for command in commands {
-        if table.put(command).is_err() {
+        if table.put(&command.command()).is_err() {
             return Err(AllocError);
         }
     }

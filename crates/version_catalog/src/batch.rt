@@ -1,5 +1,6 @@
 ghost use Rattle.std.specs.Prelude.{◌≡◌, [], ◌∷◌, ◌++◌, length, take, OnOk, OnErr};
 
+use packed_command::PackedCommand;
 use std::alloc::{AllocError, Global};
 use std::marker::Model;
 use uni_table::Command;
@@ -7,7 +8,8 @@ use uni_table::Command;
 /// The commands that are accepted and not published yet, in order. Contracts see the list of them.
 #[derive(Drop)]
 pub struct Batch {
-    commands: Vec<Command>,
+    alloc: Global,
+    commands: Vec<PackedCommand>,
 }
 
 impl Model for Batch {
@@ -25,6 +27,7 @@ impl Batch {
         ensures { result ≡ [] }
     {
         Batch {
+            alloc,
             commands: Vec::new(alloc),
         }
     }
@@ -34,7 +37,8 @@ impl Batch {
         ensures ok { OnOk result (self.new ≡ self.old ++ command ∷ []) }
         ensures err { OnErr result (self.new ≡ self.old) }
     {
-        add(&mut self.commands, command)
+        let packed = PackedCommand::of(self.alloc, &command)?;
+        add(&mut self.commands, packed)
     }
 
     /// How many commands it has.
@@ -44,7 +48,7 @@ impl Batch {
         self.commands.len()
     }
 
-    pub fn as_slice(&self) -> &[Command]
+    pub fn as_slice(&self) -> &[PackedCommand]
         ensures { result.now ≡ self.now }
     {
         self.commands.as_slice()
@@ -59,7 +63,7 @@ impl Batch {
 }
 
 // An item at the end of others.
-fn add<T: Copy + Drop>(items: &mut Vec<T>, item: T) -> Result<(), AllocError>
+fn add<T: Drop>(items: &mut Vec<T>, item: T) -> Result<(), AllocError>
     ensures ok { OnOk result (items.new.items ≡ items.old.items ++ item ∷ []) }
     ensures err { OnErr result (items.new.items ≡ items.old.items) }
 {
