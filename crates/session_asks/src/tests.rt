@@ -19,12 +19,13 @@ use uni_table::Table;
 use version_catalog::{Catalogue, Feeder, Session};
 
 mod halves;
+mod layers;
 mod replies;
 mod threads;
 
 // Users in two shards of two replicas, and photos in one. A bar ends a line.
 const HEADER: &[u8] =
-    b"unicorn 2|vertical user 2 2|vertical photo 1 1|type friend user user both index|type lives word user target index|type tagged user photo source index|type blocked user user source index|deny blocked|begin";
+    b"unicorn 2|vertical user 2 2|vertical photo 1 1|type friend user user both index|type lives word user target index|type tagged user photo source index|type shows photo user source forward|type blocked user user source index|deny blocked|begin";
 
 // More turns than a test takes.
 const MANY: u64 = 1_000_000;

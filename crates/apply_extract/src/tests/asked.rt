@@ -143,8 +143,29 @@ fn is_replied_here(
     Some(are_same(due, &first) && are_same(due, &turn) && are_same(due, &last))
 }
 
-// Whether it has it by so many workers.
-fn is_replied_by(
+// Whether it has it by so many workers, where replicas are chosen so.
+fn is_replied_by<C: Chooser + Sync>(
+    rt: &(impl Threads + Wait + Sync),
+    alloc: Global,
+    workers: u32,
+    version: &Version,
+    query: &Checked,
+    question: &Question<'_>,
+    due: &Reply,
+    chooser: &C,
+) -> Option<bool>
+    requires standing { IsStanding version.now }
+    requires typed { IsAsked version.now.schema (seen query.now) }
+{
+    let Question { viewer, limit, .. } = question;
+    let reply = answer(
+        rt, alloc, version, query, *viewer, *limit, 33, workers, chooser, &OpenGate,
+    );
+    Some(are_same(due, &reply.ok()?))
+}
+
+// Whether it has it by so many workers, whichever replicas are read.
+fn is_replied_by_all(
     rt: &(impl Threads + Wait + Sync),
     alloc: Global,
     workers: u32,
@@ -156,20 +177,37 @@ fn is_replied_by(
     requires standing { IsStanding version.now }
     requires typed { IsAsked version.now.schema (seen query.now) }
 {
-    let Question { viewer, limit, .. } = question;
-    let reply = answer(
+    let first = is_replied_by(
         rt,
         alloc,
+        workers,
         version,
         query,
-        *viewer,
-        *limit,
-        33,
+        question,
+        due,
+        &FirstChooser,
+    )?;
+    let turn = is_replied_by(
+        rt,
+        alloc,
         workers,
+        version,
+        query,
+        question,
+        due,
         &TurnChooser,
-        &OpenGate,
-    );
-    Some(are_same(due, &reply.ok()?))
+    )?;
+    let last = is_replied_by(
+        rt,
+        alloc,
+        workers,
+        version,
+        query,
+        question,
+        due,
+        &LastChooser,
+    )?;
+    Some(first && turn && last)
 }
 
 /// Whether a question has one and the same reply of a table by the definitions, and of its version on one
@@ -188,7 +226,7 @@ pub(super) fn is_answered(
     let query = query(alloc, version.schema(), question.text)?;
     let due = plain_answer(alloc, table, 1, &query, question.viewer, question.limit).ok()?;
     for workers in workers {
-        if !is_replied_by(rt, alloc, *workers, version, &query, question, &due)? {
+        if !is_replied_by_all(rt, alloc, *workers, version, &query, question, &due)? {
             return Some(false);
         }
     }

@@ -1,9 +1,12 @@
 //! Large questions, and questions over a large table.
 ghost use Rattle.std.specs.Prelude.{◌≡◌};
+ghost use Rattle.uni_schema.specs.Schema.{Declarations};
+ghost use Rattle.uni_table.specs.Commands.{IsDeclared};
 ghost use Rattle.apply_extract.specs.Conditions.{IsStanding};
 
 use super::asked::{Question, is_answered, is_put, nothing, read_question, version_of};
 use super::rows::{HEADER, small};
+use feed_reader::{FeedLine, read_feed_line};
 use shard_index::Version;
 use std::alloc::{AllocError, Global};
 use std::process::Abort;
@@ -11,10 +14,12 @@ use std::sync::Wait;
 use std::test::Fail;
 use std::thread::Threads;
 use uni_base::EntityId;
-use uni_table::Table;
+use uni_table::{Command, Table};
 
-// How many friends user 1 of the large table has.
+// How many friends user 1 of a large table has, and of a larger one.
 const FRIENDS: u64 = 6_000;
+
+const MOST_FRIENDS: u64 = 100_000;
 
 // What opens one of the four lists of the widest query.
 fn opening(number: u64) -> &'static [u8] {
@@ -78,7 +83,7 @@ fn is_befriended(alloc: Global, table: &mut Table, id: u64) -> Result<bool, Allo
     )
 }
 
-// A table of user 1 with so many friends.
+// A table of user 1 with friends, each of whom has a friend.
 fn hub(rt: &impl Abort, alloc: Global) -> Result<Table, Fail> {
     let mut table = nothing(alloc, HEADER)?;
     assert!(rt; is_put(&mut table, b"entity user 1 7"));
@@ -89,9 +94,61 @@ fn hub(rt: &impl Abort, alloc: Global) -> Result<Table, Fail> {
     Ok(table)
 }
 
+// A change of a user, or of an edge to one, told of another user.
+fn told_of(command: &Command, id: EntityId) -> Command
+    ensures { (schema : Declarations) → IsDeclared schema command.now → IsDeclared schema result }
+{
+    match *command {
+        Command::Entity { vertical, rank, .. } => Command::Entity { vertical, id, rank },
+        Command::Edge {
+            type_no,
+            key,
+            audience,
+            until,
+            ..
+        } => Command::Edge {
+            type_no,
+            key,
+            target: id,
+            audience,
+            until,
+        },
+        other => other,
+    }
+}
+
+// Whether a table takes a change of each of many users.
+fn are_put(table: &mut Table, line: &[u8]) -> bool {
+    let Ok(FeedLine::Change(command)) = read_feed_line(table.schema(), line) else {
+        return false;
+    };
+    for number in 0..MOST_FRIENDS {
+        let Some(id) = EntityId::new(number + 2) else {
+            return false;
+        };
+        if table.put(&told_of(&command, id)).is_err() {
+            return false;
+        }
+    }
+    true
+}
+
+// A table of user 1 with many more friends, and one of these with a friend.
+fn large_hub(rt: &impl Abort, alloc: Global) -> Result<Table, Fail> {
+    let mut table = nothing(alloc, HEADER)?;
+    assert!(rt; is_put(&mut table, b"entity user 1 7"));
+    assert!(rt; are_put(&mut table, b"entity user 2 7"));
+    assert!(rt; are_put(&mut table, b"edge friend 1 2 public"));
+    assert!(rt; is_put(&mut table, b"edge friend 2 3 public"));
+    Ok(table)
+}
+
 // The hub alone, with others, and on the way to its friends; then joins by a thousand and by all.
 const AT_THE_HUB: &[u8] =
     b"9 10 friend:1|9 5000 (and friend:1 lives:rome)|9 100 (apply friend: friend:3)|9 5000 (apply friend: friend:1 :limit 1000)|9 10 (apply friend: friend:1 :limit 5000)";
+
+// The large hub alone, and with one who has a friend of it.
+const AT_THE_LARGE_HUB: &[u8] = b"9 10 friend:1|9 5000 (and friend:1 friend:2)";
 
 // Whether a question of the large table is answered, on one thread and by two workers.
 fn is_asked(
@@ -110,12 +167,31 @@ fn is_asked(
     is_answered(rt, alloc, &[2], table, version, &question)
 }
 
-#[test]
-fn a_hub(rt: HostRuntime) -> Result<(), Fail> {
-    let table = hub(&rt, rt.alloc())?;
-    let version = version_of(rt.alloc(), &table).ok_or("no version")?;
-    for text in AT_THE_HUB.split(|byte| *byte == b'|') {
-        assert!(rt; is_asked(&rt, rt.alloc(), &table, &version, text) == Some(true));
+// Whether all questions are answered over a table.
+fn are_asked(
+    rt: &(impl Abort + Threads + Wait + Sync),
+    alloc: Global,
+    table: &Table,
+    questions: &[u8],
+) -> Result<(), Fail> {
+    let version = version_of(alloc, table).ok_or("no version")?;
+    for text in questions.split(|byte| *byte == b'|') {
+        assert!(rt; is_asked(rt, alloc, table, &version, text) == Some(true));
     }
     Ok(())
+}
+
+#[test]
+fn a_hub(rt: HostRuntime) -> Result<(), Fail> {
+    are_asked(&rt, rt.alloc(), &hub(&rt, rt.alloc())?, AT_THE_HUB)
+}
+
+#[test]
+fn a_large_hub(rt: HostRuntime) -> Result<(), Fail> {
+    are_asked(
+        &rt,
+        rt.alloc(),
+        &large_hub(&rt, rt.alloc())?,
+        AT_THE_LARGE_HUB,
+    )
 }
