@@ -78,8 +78,18 @@ impl Rows {
         }
     }
 
+    // The order of two edges of one source, which is that of their targets within a type.
+    fn compare_targets(&self, one: &PlacedEdge, other: &PlacedEdge) -> Ordering
+        requires { one.now.key ≡ other.now.key }
+        ensures { result ≡ edge_cmp (edge_told self.now one.now) (edge_told self.now other.now) }
+    {
+        one.type_no
+            .cmp(&other.type_no)
+            .then(one.target.get().cmp(&other.target.get()))
+    }
+
     // The order of two edges. Where both keys are ids it is told by all three numbers of each, since a branch
-    // after each of them would often be guessed wrong.
+    // after each of them would often be guessed wrong. Words of one number are those of one source.
     fn compare(&self, one: &PlacedEdge, other: &PlacedEdge) -> Ordering
         ensures { result ≡ edge_cmp (edge_told self.now one.now) (edge_told self.now other.now) }
     {
@@ -92,7 +102,10 @@ impl Rows {
                     .then(one.target.get().cmp(&other.target.get())),
                 ShortKey::Word(_) => self.compare_told(one, other),
             },
-            ShortKey::Word(_) => self.compare_told(one, other),
+            ShortKey::Word(number) => match other.key {
+                ShortKey::Word(of) if number == of => self.compare_targets(one, other),
+                _ => self.compare_told(one, other),
+            },
         }
     }
 
