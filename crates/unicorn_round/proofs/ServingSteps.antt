@@ -17,7 +17,7 @@ use Rattle.script_rounds.specs.Terms.{Terms}
 use Rattle.unicorn_round.specs.Answers.{Standing, after_entry}
 use Rattle.round_feed.specs.Feeds.{made, changed, published, publish_answers, refusal_answers, too_many_publishes}
 use Rattle.unicorn_round.specs.Marks.{lacking}
-use Rattle.unicorn_round.specs.Serving.{Serving, StandsFor, Answered}
+use Rattle.unicorn_round.specs.Serving.{Serving, IsPending, StandsFor, Answered}
 use Rattle.unicorn_round.specs.Records.{IsMarked}
 use Rattle.unicorn_round.specs.Stacks.{covering}
 use Rattle.unicorn_round.proofs.JournalSteps.{after_commands-snoc, accepts_commands-snoc, fold_of-snoc, first-later}
@@ -122,6 +122,12 @@ pub unread_answered : (serving : Serving) (s : Standing) (entry : Entry) (line :
     → Answered serving.terms s entry serving (Memory line ∷ [])
 unread_answered serving s entry line st is =
     subst (λ l. Answered serving.terms s entry serving (Memory l ∷ [])) is.1 (lacking_answered serving s entry st (reading_lacks entry is.0))
+
+-- what is pending at a place in a script is the last version with the pending batch
+pub is_pending : (serving : Serving) (s : Standing) → StandsFor serving s → IsPending serving
+is_pending serving s st =
+    st.pending ∙ st.feed.table ∙ ap (λ t. after_commands serving.terms.schema t s.feed.batch) (sym st.published)
+    ∙ ap (λ b. after_commands serving.terms.schema serving.published b) (sym st.batch)
 
 -- a publish that makes a version
 pub publish_made : (old new : Serving) (s : Standing) (line : ℕ) → StandsFor old s → old.publishes < old.terms.limits.publishes

@@ -30,6 +30,10 @@ pub record Serving : Type 0 where
 abbrev pub opening_serving : Terms → Serving
 opening_serving terms = record { terms = terms; pending = empty; batch = []; published = empty; publishes = 0; covers = opening_stacks terms.schema }
 
+-- what is pending is the last version with the pending batch
+abbrev pub IsPending : Serving → Type 0
+IsPending serving = serving.pending ≡ after_commands serving.terms.schema serving.published serving.batch
+
 -- the table of a feed is that of its journal with the pending batch, no command of which is refused at its
 -- place
 pub record IsFeed (terms : Terms) (feed : Feed) : Type 0 where

@@ -9,7 +9,7 @@ ghost use Rattle.uni_table.specs.Commands.{IsDeclared, next, refuses};
 ghost use Rattle.uni_table.specs.Contents.{ended};
 ghost use Rattle.uni_table.specs.Journals.{after_commands};
 ghost use Rattle.unicorn_round.specs.Answers.{Standing};
-ghost use Rattle.unicorn_round.specs.Serving.{Answered, StandsFor, opening_serving};
+ghost use Rattle.unicorn_round.specs.Serving.{Answered, IsPending, StandsFor, opening_serving};
 ghost use Rattle.unicorn_round.specs.Stacks.{covering};
 
 mod round;
@@ -30,8 +30,9 @@ use uni_schema::Schema;
 use uni_table::{Command, FeedRefusal, Table};
 
 /// Answers lines one after the other, each query at the last version. What is pending stays apart from
-/// that version, and a publish takes the pending commands into it one by one, so that no table is ever
-/// copied.
+/// that version. A publish takes the pending commands into it one by one, or makes it a copy of what is
+/// pending where its commands are as many as its rows were, so that it never costs more than the changes
+/// that it publishes.
 #[derive(Drop)]
 pub(crate) struct Serial {
     alloc: Global,
@@ -173,7 +174,7 @@ impl Serial {
         ensures terms { self.new.terms ≡ self.old.terms }
         ensures fewer { OnOk result (self.old.publishes < self.old.terms.limits.publishes) }
         ensures next { IfOk result (λ number. number ≡ self.old.publishes + 1) }
-        ensures ok { OnOk result (self.new ≡ record self.old {
+        ensures ok { OnOk result (IsPending self.old → self.new ≡ record self.old {
           pending = ended self.old.pending (self.old.publishes + 1);
           batch = [];
           published = ended (after_commands self.old.terms.schema self.old.published self.old.batch) (self.old.publishes + 1);
@@ -185,7 +186,7 @@ impl Serial {
         if self.publishes >= self.limits.publishes {
             return Err(PublishRefusal::TooMany);
         }
-        if put_all(&mut self.published, self.batch.as_slice()).is_err() {
+        if self.publish_pending().is_err() {
             return Err(PublishRefusal::Memory);
         }
         self.publishes += 1;
@@ -193,6 +194,25 @@ impl Serial {
         self.pending.end(self.publishes);
         self.batch.clear();
         Ok(self.publishes)
+    }
+
+    // The last version has the pending commands too. It is copied from what is pending where those are
+    // many.
+    fn publish_pending(&mut self) -> Result<(), AllocError>
+        ensures ok { OnOk result (IsPending self.old
+            → self.new ≡ record self.old { published = after_commands self.old.terms.schema self.old.published self.old.batch }) }
+        ensures kept { (self.new.terms ≡ self.old.terms) × (self.new.publishes ≡ self.old.publishes) }
+    {
+        let rows = self
+            .published
+            .entities()
+            .saturating_add(self.published.edges());
+        if self.batch.len() as u64 >= rows {
+            self.published = self.pending.copy()?;
+            Ok(())
+        } else {
+            put_all(&mut self.published, self.batch.as_slice())
+        }
     }
 
     // A query is answered over the last version.

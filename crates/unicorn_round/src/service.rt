@@ -123,6 +123,7 @@ impl Service {
             &mut stacks,
             parts,
             answers,
+            workers,
             gate,
         )?;
         let service = Service {

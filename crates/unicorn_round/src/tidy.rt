@@ -1,11 +1,13 @@
 //! The end of a round: stacks that are due are compacted, and the answers are put together.
-ghost use Rattle.std.specs.Prelude.{◌≡◌, ◌*◌, ◌^◌, ◌<◌, ◌++◌, IfOk, OnOk, length};
-ghost use Rattle.std.specs.List.{AllByRecursion};
+ghost use Rattle.std.specs.Prelude.{◌≡◌, ◌*◌, ◌^◌, ◌<◌, ◌≤◌, ◌++◌, IfOk, OnOk, length};
+ghost use Rattle.std.specs.List.{All, AllByRecursion};
+ghost use Rattle.uni_schema.specs.Schema.{Declarations};
 ghost use Rattle.round_feed.specs.Seats.{HasCompacted, MayCompact};
 ghost use Rattle.unicorn_round.specs.Ending.{IsEnded};
 ghost use Rattle.unicorn_round.specs.Queues.{answers_at, shown_by};
 ghost use Rattle.unicorn_round.specs.SchemaStacks.{AreStacks, IsStackOf};
 ghost use Rattle.unicorn_round.specs.Weaving.{merged};
+ghost use Rattle.version_catalog.specs.Bases.{IsStackId};
 ghost use Rattle.version_catalog.specs.Seats.{IsFeederOf, feeder_journal, settings_of};
 
 use crate::merge::{Queues, add_slots};
@@ -16,11 +18,12 @@ use rack_aggregate::{Gate, Point};
 use reply_text::{Answer, AnswerList};
 use std::alloc::{AllocError, Global};
 use std::sync::Wait;
-use version_catalog::{Catalogue, Compactor, Feeder};
+use std::thread::Threads;
+use version_catalog::{Catalogue, Compactor, Feeder, StackId};
 
 /// Ends a round whose lines were worked on: all its answers, of which the last are those of the stacks that were
 /// due.
-pub(crate) fn end_round<R: Wait, G: Gate>(
+pub(crate) fn end_round<R: Threads + Wait + Sync, G: Gate>(
     rt: &R,
     alloc: Global,
     catalogue: &Catalogue,
@@ -29,8 +32,10 @@ pub(crate) fn end_round<R: Wait, G: Gate>(
     stacks: &mut Stacks,
     parts: Parts,
     answers: RoundAnswers,
+    workers: u32,
     gate: &G,
 ) -> Result<AnswerList, AllocError>
+    requires workers { 1 ≤ workers }
     requires feeder { IsFeederOf catalogue.now feeder.now }
     requires few { length (feeder_journal feeder.now) < 2 ^ 63 }
     requires compactor { MayCompact catalogue.now 8192 compactor.old }
@@ -42,7 +47,15 @@ pub(crate) fn end_round<R: Wait, G: Gate>(
     stacks.cover_all(parts.compactions.as_slice(), answers.compacted.as_slice());
     let made = feeder.publishes();
     let due = stacks.due(made)?;
-    let missed = tidy_stacks(rt, alloc, catalogue, compactor, due.as_slice(), gate)?;
+    let missed = tidy_stacks(
+        rt,
+        alloc,
+        catalogue,
+        compactor,
+        due.as_slice(),
+        workers,
+        gate,
+    )?;
     let untidied = stacks.due_among(made, missed.as_slice())?;
     let mut tidied = Vec::new(alloc);
     stacks.answer_due(made, untidied.as_slice(), &mut tidied)?;
@@ -70,34 +83,62 @@ fn put_together(
     Ok(AnswerList::from_vec(said))
 }
 
-// Compacts stacks one after the other. Those that found no memory are as before, and are told.
-fn tidy_stacks<R: Wait, G: Gate>(
+// Compacts stacks, those of as many shards as there are workers at a time. Those that found no memory are as
+// before, and are told.
+fn tidy_stacks<R: Threads + Wait + Sync, G: Gate>(
     rt: &R,
     alloc: Global,
     catalogue: &Catalogue,
     compactor: &mut Compactor,
     due: &[StackCover],
+    workers: u32,
     gate: &G,
 ) -> Result<Vec<StackCover>, AllocError>
+    requires workers { 1 ≤ workers }
     requires compactor { MayCompact catalogue.now (2 * length due.now) compactor.old }
     requires stacks { AllByRecursion (IsStackOf (settings_of catalogue.now).schema) due.now }
     ensures { HasCompacted catalogue.now (2 * length due.now) compactor.old compactor.new }
 {
+    let ids = ids_of(alloc, due)?;
+    match catalogue.compact_stacks(rt, compactor, &ids, workers) {
+        Ok(covers) => missed_of(rt, alloc, due, &covers, gate),
+        Err(_) => missed_of(rt, alloc, due, &[], gate),
+    }
+}
+
+// The stacks by their numbers.
+fn ids_of(alloc: Global, stacks: &[StackCover]) -> Result<Vec<StackId>, AllocError>
+    ensures length { IfOk result (λ ids. length ids.items ≡ length stacks.now) }
+    ensures each { IfOk result (λ ids. (schema : Declarations) → All (IsStackOf schema) stacks.now → All (IsStackId schema) ids.items) }
+{
+    let mut ids = Vec::with_capacity(alloc, stacks.len())?;
+    for stack in stacks {
+        ids.push(StackId {
+            vertical: stack.vertical,
+            shard: stack.shard,
+            replica: stack.replica,
+        })?;
+    }
+    Ok(ids)
+}
+
+// The stacks that were not compacted: those that no number of publishes is told of. The gate is told of the
+// others.
+fn missed_of<R: Wait, G: Gate>(
+    rt: &R,
+    alloc: Global,
+    stacks: &[StackCover],
+    covers: &[Option<u64>],
+    gate: &G,
+) -> Result<Vec<StackCover>, AllocError> {
     let mut missed = Vec::new(alloc);
-    for stack in due {
-        let compacted = catalogue.compact(
-            rt,
-            compactor,
-            stack.vertical,
-            stack.shard,
-            stack.replica,
-        );
-        match compacted {
-            Ok(_) => gate.at(
+    for (at, stack) in stacks.iter().enumerate() {
+        match covers.get(at) {
+            Some(Some(_)) => gate.at(
                 rt,
                 Point::Installed(stack.vertical, stack.shard, stack.replica),
             ),
-            Err(_) => missed.push(*stack)?,
+            _ => missed.push(*stack)?,
         }
     }
     Ok(missed)

@@ -8,5 +8,6 @@ pub mod Shares
 pub mod Growth
 pub mod Installs
 pub mod Openings
+pub mod SoleLayers
 pub mod Tying
 pub mod Wholes

@@ -1,3 +1,4 @@
+pub mod Bases
 pub mod Core
 pub mod Examples
 pub mod Journals

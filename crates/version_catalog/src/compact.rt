@@ -42,7 +42,7 @@ impl Catalogue {
     }
 
     // Installs in a turn.
-    fn install<R: Wait>(
+    pub(crate) fn install<R: Wait>(
         &self,
         rt: &R,
         compactor: &mut Compactor,

@@ -2,9 +2,11 @@
 //! a turn of its own.
 #![tactic(auto)]
 
+mod bases;
 mod batch;
 mod catalogue;
 mod compact;
+mod compactions;
 mod compactor;
 mod entry;
 pub mod examples;
@@ -17,6 +19,7 @@ mod pinned;
 mod publish;
 mod refusal;
 mod settings;
+mod stack_id;
 mod stacks;
 mod state;
 pub mod turns;
@@ -31,6 +34,7 @@ pub use holder::Holder;
 pub use pinned::Pinned;
 pub use refusal::PublishRefusal;
 pub use settings::Settings;
+pub use stack_id::StackId;
 pub use state::CatalogueState;
 
 /// A seat of a catalogue that pins.

@@ -1,11 +1,14 @@
 //! A small catalogue, with a seat of each kind.
+ghost use Rattle.std.specs.Prelude.{All, IfSome, IsTrue};
 ghost use Rattle.turn_lock.specs.Seats.{SeatRests};
+ghost use Rattle.version_catalog.specs.Bases.{IsStackId};
 ghost use Rattle.version_catalog.specs.Seats.{IsFeederOf, IsCompactorOf, IsSessionOf};
 
-use crate::{Catalogue, Compactor, Feeder, Pinned, PublishRefusal, Session};
+use crate::{Catalogue, Compactor, Feeder, Pinned, PublishRefusal, Session, StackId};
 use feed_reader::{FeedLine, read_feed_line};
 use std::alloc::Global;
 use std::sync::{Arc, Wait};
+use std::thread::Threads;
 use uni_base::{Limits, cut_at};
 use uni_schema::{HeaderReader, Schema};
 
@@ -45,6 +48,36 @@ fn is_put(_catalogue: &Catalogue, feeder: &mut Feeder, line: &[u8]) -> bool
         return false;
     };
     feeder.put(&command).is_ok()
+}
+
+// Whether a schema has a stack.
+fn is_stack(schema: &Schema, stack: &StackId) -> bool
+    ensures { IsTrue result → IsStackId schema.now stack.now }
+{
+    if stack.vertical >= schema.verticals() {
+        return false;
+    }
+    let declared = schema.vertical(stack.vertical);
+    stack.shard < declared.shards && stack.replica < declared.replicas
+}
+
+// All stacks of the catalogue.
+fn all_stacks(alloc: Global, schema: &Schema) -> Option<Vec<StackId>>
+    ensures { IfSome result (λ stacks. All (IsStackId schema.now) stacks.items) }
+{
+    let mut stacks = Vec::new(alloc);
+    for number in 0..5_u32 {
+        let stack = StackId {
+            vertical: (number / 4) as u16,
+            shard: number / 2 % 2,
+            replica: number % 2,
+        };
+        if !is_stack(schema, &stack) {
+            return None;
+        }
+        stacks.push(stack).ok()?;
+    }
+    Some(stacks)
 }
 
 // A catalogue with a seat of each kind.
@@ -104,6 +137,22 @@ impl Opened {
         }
         self.catalogue
             .compact(rt, &mut self.compactor, vertical, shard, replica)
+            .ok()
+    }
+
+    // What a compaction of all stacks by so many workers answers.
+    fn compact_all<R: Threads + Wait + Sync>(
+        &mut self,
+        rt: &R,
+        alloc: Global,
+        workers: u32,
+    ) -> Option<Vec<Option<u64>>> {
+        let stacks = all_stacks(alloc, self.feeder.table().schema())?;
+        if self.compactor.turns() >= MANY || workers == 0 || stacks.len() > 5 {
+            return None;
+        }
+        self.catalogue
+            .compact_stacks(rt, &mut self.compactor, &stacks, workers)
             .ok()
     }
 }

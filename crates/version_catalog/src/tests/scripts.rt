@@ -9,6 +9,7 @@ use std::alloc::Global;
 use std::process::Abort;
 use std::sync::Wait;
 use std::test::Fail;
+use std::thread::Threads;
 use uni_base::{Fields, Limits, read_between};
 
 // Eight entities, and twelve edges.
@@ -21,6 +22,10 @@ const COMPACTS: &[u8] =
 
 const TIDIES: &[u8] =
     b"publish 2;publish 3;publish 4;publish 5;publish 6;publish 7;publish 8;layers 9 9 9 9 9;compact 0 0 0 8;compact 0 1 0 8;compact 1 0 0 8;layers 1 9 1 9 1";
+
+// All stacks at once, by so many workers, covers what is said.
+const TOGETHER: &[u8] =
+    b"publish 2;layers 3 3 3 3 3;all 1 2;layers 1 1 1 1 1;publish 3;publish 4;compact 0 0 1 4;layers 3 1 3 3 3;all 2 4;layers 1 1 1 1 1;entries 7 7 6 6 6;entity user 5 95;gone 3;publish 5;all 64 5;layers 1 1 1 1 1";
 
 // An edge is cut, an entity goes and comes at another rank, and edges end, with compactions in between.
 const CHANGES: &[u8] =
@@ -68,9 +73,27 @@ fn is_compacted<R: Wait>(rt: &R, opened: &mut Opened, fields: &mut Fields<'_>) -
     Some(opened.compact(rt, vertical, shard, replica)? == number(fields)?)
 }
 
+// Whether all stacks are compacted by so many workers, and then cover so many publishes.
+fn are_compacted<R: Threads + Wait + Sync>(
+    rt: &R,
+    alloc: Global,
+    opened: &mut Opened,
+    fields: &mut Fields<'_>,
+) -> Option<bool> {
+    let workers = number(fields)? as u32;
+    let covers = number(fields)?;
+    let told = opened.compact_all(rt, alloc, workers)?;
+    Some(told.len() == 5 && told.iter().all(|number| *number == Some(covers)))
+}
+
 // Makes a step: a publish, a compaction, a look, or a change. After a publish and a compaction the newest
 // version reads like one that no layers lead to.
-fn is_made<R: Wait>(rt: &R, alloc: Global, opened: &mut Opened, step: &[u8]) -> Option<bool> {
+fn is_made<R: Threads + Wait + Sync>(
+    rt: &R,
+    alloc: Global,
+    opened: &mut Opened,
+    step: &[u8],
+) -> Option<bool> {
     let mut fields = Fields::of(step);
     let word = fields.next()?;
     if word == b"publish".as_slice() {
@@ -81,13 +104,22 @@ fn is_made<R: Wait>(rt: &R, alloc: Global, opened: &mut Opened, step: &[u8]) -> 
         let is_compacted = is_compacted(rt, opened, &mut fields)?;
         return Some(is_compacted && is_newest_read(rt, alloc, opened)?);
     }
+    if word == b"all".as_slice() {
+        let are_compacted = are_compacted(rt, alloc, opened, &mut fields)?;
+        return Some(are_compacted && is_newest_read(rt, alloc, opened)?);
+    }
     if word == b"layers".as_slice() || word == b"entries".as_slice() {
         return is_counted(opened.pin(rt)?.version(), word, &mut fields);
     }
     Some(opened.is_put(step))
 }
 
-fn follow<R: Wait + Abort>(rt: &R, alloc: Global, opened: &mut Opened, script: &[u8]) {
+fn follow<R: Threads + Wait + Sync + Abort>(
+    rt: &R,
+    alloc: Global,
+    opened: &mut Opened,
+    script: &[u8],
+) {
     for (step_no, step) in script.split(|byte| *byte == b';').enumerate() {
         assert!(rt;
             is_made(rt, alloc, opened, step) == Some(true),
@@ -96,7 +128,11 @@ fn follow<R: Wait + Abort>(rt: &R, alloc: Global, opened: &mut Opened, script: &
     }
 }
 
-fn follow_all<R: Wait + Abort>(rt: &R, alloc: Global, script: &[u8]) -> Result<(), Fail> {
+fn follow_all<R: Threads + Wait + Sync + Abort>(
+    rt: &R,
+    alloc: Global,
+    script: &[u8],
+) -> Result<(), Fail> {
     let mut opened = Opened::new(rt, alloc, Limits::standard()).ok_or("no catalogue")?;
     follow(rt, alloc, &mut opened, ROWS);
     follow(rt, alloc, &mut opened, script);
@@ -107,6 +143,7 @@ fn follow_all<R: Wait + Abort>(rt: &R, alloc: Global, script: &[u8]) -> Result<(
 fn layers_by_publishes_and_compactions(rt: HostRuntime) -> Result<(), Fail> {
     follow_all(&rt, rt.alloc(), COMPACTS)?;
     follow_all(&rt, rt.alloc(), TIDIES)?;
+    follow_all(&rt, rt.alloc(), TOGETHER)?;
     follow_all(&rt, rt.alloc(), CHANGES)
 }
 

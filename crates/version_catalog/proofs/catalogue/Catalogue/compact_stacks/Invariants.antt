@@ -1,0 +1,18 @@
+use Rattle.std.proofs.Common.{◌≡◌, ◌+◌, ◌-◌, ◌*◌, ◌≤◌, All, length}
+use mathlib.Core.List.{IsPrefix}
+use Rattle.version_catalog.specs.Bases.{IsBetween}
+use Rattle.version_catalog.specs.Seats.{compactor_journal, compactor_turns, IsCompactorOf}
+use Rattle.version_catalog.proofs.catalogue.Catalogue.compact_stacks.Given as goal
+
+abbrev pub invariant-loop-from : goal.invariant-loop-from
+invariant-loop-from g l = record {
+  within : l.from ≤ length l.stacks;
+  of : IsCompactorOf l.self l.compactor;
+  turns : compactor_turns l.compactor ≤ compactor_turns l.fn.compactor + 2 * l.from;
+  later : IsPrefix (compactor_journal l.fn.compactor) (compactor_journal l.compactor);
+  told : length l.told.items ≡ length l.stacks;
+  covers : All (IsBetween (length (compactor_journal l.fn.compactor)) (length (compactor_journal l.compactor))) l.told.items;
+}
+
+abbrev pub decreases-loop-from : goal.decreases-loop-from
+decreases-loop-from g l = length l.stacks - l.from
