@@ -1,5 +1,5 @@
 -- Postings put term by term, by look-ups.
-use Rattle.std.proofs.Common.{◌≡◌, ℕ, zero, suc, ◌+◌, ◌-◌, ◌<◌, ◌≤◌, Bool, true, false, cond, ◌||◌, List, [], ◌∷◌, ◌++◌, map, filter, take, length, get_or, reverse, slice_get, Option, None, Some, refl, sym, ◌∙◌, ap, subst, is_some, arith}
+use Rattle.std.proofs.Common.{◌≡◌, ℕ, zero, suc, ◌+◌, ◌-◌, ◌<◌, ◌≤◌, Bool, true, false, cond, ◌||◌, List, [], ◌∷◌, ◌++◌, map, filter, take, length, reverse, slice_get, Option, None, Some, refl, sym, ◌∙◌, ap, subst, is_some, arith}
 use Rattle.std.specs.Cmp.{Equal-is}
 use Rattle.std.specs.Prelude.{T}
 use Rattle.std.specs.List.{list_any}
@@ -23,11 +23,12 @@ use Rattle.layer_base.specs.Layers.{from_log, put_all, layer_over, stack_over, s
 use Rattle.layer_base.proofs.Among.{among-append, among_noted, among_first, is_done, done_further, done_skipped, done_copied, done_whole, or_false, or_nothing, or_assoc}
 use Rattle.layer_base.specs.Among.{bare}
 use Rattle.layer_base.proofs.Rising.{log_sorted}
-use Rattle.layer_base.proofs.Sorted.{find_at}
 use Rattle.layer_base.proofs.Tables.{get-put_all, get-layer_over}
 use Rattle.layer_stack.specs.declared.directory.Span.{Span}
 use Rattle.layer_stack.specs.declared.place.Place.{Place}
 use Rattle.layer_stack.specs.declared.place.TermKey.{TermKey}
+use Rattle.layer_stack.specs.declared.term_spans.TermSpans.{TermSpans}
+use Rattle.layer_stack.specs.Directories.{puts_in, put_spans}
 use Rattle.layer_stack.specs.Combined.{is_among, is_changed, AreChanged, putting_terms, StandsAlone}
 use Rattle.layer_stack.specs.Places.{term_cmp, place_cmp}
 use Rattle.layer_stack.specs.Postings.{PostingTable, PostingChanges, no_changes, putting_all, is_under, place_of, posting_of, key_of, postings_of, putting, putting_list}
@@ -37,7 +38,7 @@ use Rattle.layer_stack.specs.Words.{has_term}
 use Rattle.layer_stack.proofs.Sections.{section_more}
 use Rattle.layer_stack.proofs.Order.{term_total, term_apart, place_total, place_apart}
 use Rattle.layer_stack.proofs.Terms.{keyed, get-under, get-layer, sorted_keyed, posting_at-keyed}
-use Rattle.layer_stack.proofs.Under.{term_self}
+use Rattle.layer_stack.proofs.Directories.{found_by}
 
 -- ---- the postings of a term, put one after another
 
@@ -121,24 +122,24 @@ has_terms table (e ∷ es) done c has =
     has_alike table (λ s. is_among s es || (eq_by_cmp term_cmp s e.0 || done s)) (λ s. is_among s (e ∷ es) || done s) (putting_terms table (e ∷ es) c) (λ s. among_first term_cmp s e es (done s))
     (has_terms table es (λ s. eq_by_cmp term_cmp s e.0 || done s) (putting_list e.0 (postings_of e.0 table) c) (has_list table done e.0 c has))
 
-pub done_start : (table : PostingTable) (changed : List (TermKey × Unit {0})) → Has table (is_done term_cmp {X = Span} changed 0 []) no_changes
+pub done_start : (table : PostingTable) (changed : List (TermKey × Unit {0})) → Has table (is_done term_cmp {X = TermSpans} changed 0 []) no_changes
 done_start table changed = record { deletes = refl; puts = λ q. finite.get-empty place_cmp q }
 
-pub done_terms : (table : PostingTable) (changed : List (TermKey × Unit {0})) (at to : ℕ) (spans : List (TermKey × Span)) (c : PostingChanges) → at ≤ to → to ≤ length changed → Has table (is_done term_cmp changed at spans) c
-    → Has table (is_done term_cmp changed to spans) (putting_terms table (section at to changed) c)
-done_terms table changed at to spans c le fits has =
-    has_alike table (λ s. is_among s (section at to changed) || is_done term_cmp changed at spans s) (is_done term_cmp changed to spans) (putting_terms table (section at to changed) c)
-    (done_further term_cmp changed at to spans le fits) (has_terms table (section at to changed) (is_done term_cmp changed at spans) c has)
+pub done_terms : (table : PostingTable) (changed : List (TermKey × Unit {0})) (at to : ℕ) (rows : List (TermKey × TermSpans)) (c : PostingChanges) → at ≤ to → to ≤ length changed → Has table (is_done term_cmp changed at rows) c
+    → Has table (is_done term_cmp changed to rows) (putting_terms table (section at to changed) c)
+done_terms table changed at to rows c le fits has =
+    has_alike table (λ s. is_among s (section at to changed) || is_done term_cmp changed at rows s) (is_done term_cmp changed to rows) (putting_terms table (section at to changed) c)
+    (done_further term_cmp changed at to rows le fits) (has_terms table (section at to changed) (is_done term_cmp changed at rows) c has)
 
-pub done_span : (table : PostingTable) (changed : List (TermKey × Unit {0})) (to : ℕ) (spans : List (TermKey × Span)) (e : TermKey × Span) (ps : List Posting) (c : PostingChanges) → (is_among e.0 changed ≡ false → ps ≡ postings_of e.0 table)
-    → Has table (is_done term_cmp changed to spans) c → Has table (is_done term_cmp changed to (spans ++ e ∷ [])) (cond (is_among e.0 changed) c (putting_list e.0 ps c))
-done_span table changed to spans e ps c alone has = by (is_among e.0 changed) refl
+pub done_span : (table : PostingTable) (changed : List (TermKey × Unit {0})) (to : ℕ) (rows : List (TermKey × TermSpans)) (e : TermKey × TermSpans) (ps : List Posting) (c : PostingChanges) → (is_among e.0 changed ≡ false → ps ≡ postings_of e.0 table)
+    → Has table (is_done term_cmp changed to rows) c → Has table (is_done term_cmp changed to (rows ++ e ∷ [])) (cond (is_among e.0 changed) c (putting_list e.0 ps c))
+done_span table changed to rows e ps c alone has = by (is_among e.0 changed) refl
   where
-    by : (b : Bool) → is_among e.0 changed ≡ b → Has table (is_done term_cmp changed to (spans ++ e ∷ [])) (cond b c (putting_list e.0 ps c))
-    by true is = has_alike table (is_done term_cmp changed to spans) (is_done term_cmp changed to (spans ++ e ∷ [])) c (done_skipped term_cmp term_apart changed to spans e is) has
+    by : (b : Bool) → is_among e.0 changed ≡ b → Has table (is_done term_cmp changed to (rows ++ e ∷ [])) (cond b c (putting_list e.0 ps c))
+    by true is = has_alike table (is_done term_cmp changed to rows) (is_done term_cmp changed to (rows ++ e ∷ [])) c (done_skipped term_cmp term_apart changed to rows e is) has
     by false is =
-        has_alike table (λ s. eq_by_cmp term_cmp s e.0 || is_done term_cmp changed to spans s) (is_done term_cmp changed to (spans ++ e ∷ [])) (putting_list e.0 ps c) (done_copied term_cmp term_apart changed to spans e is)
-        (subst (λ (qs : List Posting). Has table (λ s. eq_by_cmp term_cmp s e.0 || is_done term_cmp changed to spans s) (putting_list e.0 qs c)) (sym (alone is)) (has_list table (is_done term_cmp changed to spans) e.0 c has))
+        has_alike table (λ s. eq_by_cmp term_cmp s e.0 || is_done term_cmp changed to rows s) (is_done term_cmp changed to (rows ++ e ∷ [])) (putting_list e.0 ps c) (done_copied term_cmp term_apart changed to rows e is)
+        (subst (λ (qs : List Posting). Has table (λ s. eq_by_cmp term_cmp s e.0 || is_done term_cmp changed to rows s) (putting_list e.0 qs c)) (sym (alone is)) (has_list table (is_done term_cmp changed to rows) e.0 c has))
 
 -- a term without postings has nothing at any key
 none_at : (table : PostingTable) (q : Place) → [] ≡ postings_of q.term table → finite.get table q ≡ None
@@ -149,18 +150,19 @@ none_at table q none = get-under q.term q.key table ∙ ap (λ es. find doc_cmp 
     empty (r ∷ rows) e = cc
 
 -- once all terms are done, the changes put the table
-pub all_done : (table : PostingTable) (changed : List (TermKey × Unit {0})) (to : ℕ) (spans : List (TermKey × Span)) (ps : List Posting) (c : PostingChanges) → take to changed ≡ changed → StandsAlone changed spans ps table
-    → Has table (is_done term_cmp changed to spans) c → c ≡ putting_all table
-all_done table changed to spans ps c whole alone has = λ i. record { deletes = has.deletes i; puts = puts i }
+pub all_done : (table : PostingTable) (changed : List (TermKey × Unit {0})) (to : ℕ) (es : List (TermKey × TermSpans)) (ps : List Posting) (c : PostingChanges) → take to changed ≡ changed → T (is_sorted term_cmp es)
+    → StandsAlone changed (put_spans es) ps table → Has table (is_done term_cmp changed to es) c → c ≡ putting_all table
+all_done table changed to es ps c whole sorted alone has = λ i. record { deletes = has.deletes i; puts = puts i }
   where
     at : (q : Place) → finite.get c.puts q ≡ finite.get table q
-    at q = has.puts q ∙ by (is_among q.term changed) (span_of q.term spans) refl refl
+    at q = has.puts q ∙ by (is_among q.term changed) (find term_cmp q.term es) refl refl
       where
-        by : (b : Bool) (o : Option Span) → is_among q.term changed ≡ b → span_of q.term spans ≡ o → cond (is_done term_cmp changed to spans q.term) (finite.get table q) None ≡ finite.get table q
-        by true o e f = ap (λ b. cond b (finite.get table q) None) (done_whole term_cmp changed to spans whole q.term true (is_some o) e (ap is_some f))
-        by false (Some s) e f = ap (λ b. cond b (finite.get table q) None) (done_whole term_cmp changed to spans whole q.term false true e (ap is_some f))
+        by : (b : Bool) (o : Option TermSpans) → is_among q.term changed ≡ b → find term_cmp q.term es ≡ o → cond (is_done term_cmp changed to es q.term) (finite.get table q) None ≡ finite.get table q
+        by true o e f = ap (λ b. cond b (finite.get table q) None) (done_whole term_cmp changed to es whole q.term true (is_some o) e (ap is_some f))
+        by false (Some s) e f = ap (λ b. cond b (finite.get table q) None) (done_whole term_cmp changed to es whole q.term false true e (ap is_some f))
         by false None e f =
-            ap (λ b. cond b (finite.get table q) None) (done_whole term_cmp changed to spans whole q.term false false e (ap is_some f)) ∙ sym (none_at table q (ap (λ o. told o ps) (sym f) ∙ alone q.term e))
+            let none : span_of q.term (put_spans es) ≡ None = sym (found_by puts_in refl q.term es sorted) ∙ ap puts_in f in
+            ap (λ b. cond b (finite.get table q) None) (done_whole term_cmp changed to es whole q.term false false e (ap is_some f)) ∙ sym (none_at table q (ap (λ o. told o ps) (sym none) ∙ alone q.term e))
 
     puts : c.puts ≡ table
     puts = finite.same_map place_total place_apart c.puts table at
@@ -228,12 +230,3 @@ pub note_more : {X : Type 0} (t : TermKey) (terms : List (TermKey × Unit {0})) 
     → is_among t (terms ++ bare e ∷ []) ≡ (older || is_among t (yielded ++ e ∷ []))
 note_more t terms yielded e older so_far =
     among_noted term_cmp t terms (e ∷ []) ∙ ap (λ b. b || is_among t (e ∷ [])) so_far ∙ or_assoc older (is_among t yielded) (is_among t (e ∷ [])) ∙ ap (λ b. older || b) (sym (among-append term_cmp t yielded (e ∷ [])))
-
--- what the two directories of a layer note
-pub notes_both : (t : TermKey) (older first new deletes puts : Bool) → first ≡ (older || deletes) → new ≡ (first || puts) → new ≡ (older || (deletes || puts))
-notes_both t older first new deletes puts one two = two ∙ ap (λ b. b || puts) one ∙ or_assoc older deletes puts
-
--- the span of the term at a place
-pub span_there : (spans : List (TermKey × Span)) (i : ℕ) (e : TermKey × Span) → T (is_sorted term_cmp spans) → i < length spans → e ≡ get_or spans i e → span_of e.0 spans ≡ Some e.1
-span_there spans i e sorted fits is =
-    find_at term_cmp term_total e.0 spans i e sorted fits (ap (λ (x : TermKey × Span). term_cmp x.0 e.0) (sym is) ∙ term_self e.0) ∙ ap (λ (x : TermKey × Span). Some x.1) (sym is)

@@ -5,7 +5,7 @@ pub mod Laid
 pub mod Sections
 pub mod Merged
 pub mod Order
-pub mod Spanned
+pub mod Directories
 pub mod TermWords
 pub mod Terms
 pub mod Under

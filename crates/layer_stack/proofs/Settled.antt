@@ -224,3 +224,10 @@ settled_laid log rows spans items settled few = record {
 
 pub settled_map : {V : Type 0} (log rows : List (Place × V)) (spans : List (TermKey × Span)) (items : ℕ) → AreSettled log rows spans items → finite.from_sorted {R = place_cmp} rows ≡ from_log {R = place_cmp} log
 settled_map log rows spans items settled = ap (finite.from_sorted {R = place_cmp}) settled.last ∙ from_sorted-entries (from_log {R = place_cmp} log)
+
+-- spans within fewer rows than there may be at most
+pub spans_fit : (rows most : ℕ) (spans : List (TermKey × Span)) → IsSpans rows spans → rows ≤ most → IsSpans most spans
+spans_fit rows most spans told few = record {
+  sorted = told.sorted;
+  within = All-weaker (λ (e : TermKey × Span). (e.1.from < e.1.to) × (e.1.to ≤ rows)) (λ (e : TermKey × Span). (e.1.from < e.1.to) × (e.1.to ≤ most)) (λ e within. (within.0, omega (arith, within.1, few))) spans told.within;
+}

@@ -2,6 +2,9 @@
 use Rattle.std.proofs.Common.{◌≡◌, ℕ, zero, suc, ◌<◌, ◌≤◌, Bool, true, false, cond, not, ◌==◌, ◌||◌, List, [], ◌∷◌, ◌++◌, map, length, get_or, Option, None, Some, refl, sym, ◌∙◌, ap, subst, arith, All, is_some, eq-eqb, ◌⊎◌, inl, inr}
 use Rattle.std.specs.Cmp.{Equal-is}
 use Rattle.std.specs.Prelude.{T}
+use Rattle.std.specs.FinMap as finite
+use Rattle.uni_base.specs.declared.entity.DocKey.{DocKey}
+use Rattle.posting_lists.specs.declared.posting.Posting.{Posting}
 use Rattle.std.specs.List.{list_any, slice_get}
 use Rattle.std.specs.List.Sorted.{IsPartitionedBy, IsPartitionPoint}
 use Rattle.std.specs.declared.cmp.Ordering.{Ordering}
@@ -10,7 +13,7 @@ use Rattle.std.specs.Ordering.{is_lt, is_eq, eq_by_cmp, nat_cmp, ordering_then, 
 use Rattle.std.specs.Cmp.{tied_itself, nat_cmp_total}
 use Rattle.std.specs.Cmp.Lexicographic.{slice_cmp, nat_list_cmp_total}
 use Rattle.std.proofs.lemmas.Map.Lookups.{exact_unsigned, exact_bytes}
-use Rattle.std.specs.FinMap.Entries.{is_sorted}
+use Rattle.std.specs.FinMap.Entries.{find, is_sorted}
 use Rattle.std.proofs.lemmas.Bool.{cases_lt}
 use Rattle.std.proofs.lemmas.List.Elements.{All-head, All-tail}
 use Rattle.std.proofs.lemmas.Option.{get_or_from_slice_get, slice_get_within}
@@ -25,10 +28,12 @@ use Rattle.layer_base.proofs.Sorted.{sorted_at, less_from}
 use Rattle.layer_stack.specs.declared.directory.Span.{Span}
 use Rattle.layer_stack.specs.declared.place.Place.{Place}
 use Rattle.layer_stack.specs.declared.place.TermKey.{TermKey}
-use Rattle.layer_stack.specs.Places.{term_cmp, term_of}
-use Rattle.layer_stack.specs.Postings.{is_under}
-use Rattle.layer_stack.specs.Spans.{spanned, tagged, span_of, is_passed, word_of, word_at, earlier}
-use Rattle.layer_stack.specs.Words.{is_word_before, is_word_from, IsWordFrom}
+use Rattle.layer_stack.specs.declared.term_spans.TermSpans.{TermSpans}
+use Rattle.layer_stack.specs.Directories.{narrowed, put_spans, delete_spans, has_spans}
+use Rattle.layer_stack.specs.Places.{term_cmp, place_cmp, term_of}
+use Rattle.layer_stack.specs.Postings.{changes_of, is_under, place_of}
+use Rattle.layer_stack.specs.Spans.{spanned, tagged, span_of, is_passed, word_of, word_at, earlier, put_rows, delete_rows, AreLaid}
+use Rattle.layer_stack.specs.Words.{is_word_before, is_word_from, IsWordFrom, has_term}
 use Rattle.layer_stack.proofs.Order.{term_total, term_apart}
 
 -- ---- the order of the terms of one type that start at words
@@ -63,31 +68,31 @@ passed_back also from a b less passed = ap (λ o. match_ordering o true also fal
 
 -- ---- terms in order
 
-module _ (spans : List (TermKey × Span)) (sorted : T (is_sorted term_cmp spans)) where
-  pub partitioned : (strict : Bool) (from : TermKey) → IsPartitionedBy (λ e. is_passed strict from e.0) spans
+module _ (es : List (TermKey × TermSpans)) (sorted : T (is_sorted term_cmp es)) where
+  pub partitioned : (strict : Bool) (from : TermKey) → IsPartitionedBy (λ e. is_passed strict from e.0) es
   partitioned strict from i j d le fits passed = by (cases_lt i j)
     where
-      by : (i < j) ⊎ (j ≤ i) → is_passed strict from (get_or spans i d).0 ≡ true
-      by (inl less) = passed_back strict from (get_or spans i d).0 (get_or spans j d).0 (sorted_at term_cmp spans i j d sorted less fits) passed
-      by (inr more) = let same : j ≡ i = omega arith in subst (λ (n : ℕ). is_passed strict from (get_or spans n d).0 ≡ true) same passed
+      by : (i < j) ⊎ (j ≤ i) → is_passed strict from (get_or es i d).0 ≡ true
+      by (inl less) = passed_back strict from (get_or es i d).0 (get_or es j d).0 (sorted_at term_cmp es i j d sorted less fits) passed
+      by (inr more) = let same : j ≡ i = omega arith in subst (λ (n : ℕ). is_passed strict from (get_or es n d).0 ≡ true) same passed
 
-at_index : (t : TermKey) (spans : List (TermKey × Span)) → is_some (span_of t spans) ≡ true → (j : ℕ) × (j < length spans) × ((d : TermKey × Span) → (get_or spans j d).0 ≡ t)
+at_index : (t : TermKey) (es : List (TermKey × TermSpans)) → is_some (find term_cmp t es) ≡ true → (j : ℕ) × (j < length es) × ((d : TermKey × TermSpans) → (get_or es j d).0 ≡ t)
 at_index t [] e = cc
-at_index t (s ∷ spans) e = by (eq_by_cmp term_cmp t s.0) refl e (at_index t spans)
+at_index t (s ∷ es) e = by (eq_by_cmp term_cmp t s.0) refl e (at_index t es)
   where
-    by : (b : Bool) → eq_by_cmp term_cmp t s.0 ≡ b → is_some (cond b (Some s.1) (span_of t spans)) ≡ true
-        → (is_some (span_of t spans) ≡ true → (j : ℕ) × (j < length spans) × ((d : TermKey × Span) → (get_or spans j d).0 ≡ t)) → (j : ℕ) × (j < length (s ∷ spans)) × ((d : TermKey × Span) → (get_or (s ∷ spans) j d).0 ≡ t)
+    by : (b : Bool) → eq_by_cmp term_cmp t s.0 ≡ b → is_some (cond b (Some s.1) (find term_cmp t es)) ≡ true
+        → (is_some (find term_cmp t es) ≡ true → (j : ℕ) × (j < length es) × ((d : TermKey × TermSpans) → (get_or es j d).0 ≡ t)) → (j : ℕ) × (j < length (s ∷ es)) × ((d : TermKey × TermSpans) → (get_or (s ∷ es) j d).0 ≡ t)
     by true q e rest = (0, omega arith, λ d. sym (term_apart t s.0 ((Equal-is (term_cmp t s.0)).0 q)))
     by false q e rest = let r = rest e in (suc r.0, omega (arith, r.1), λ d. r.2 d)
 
-has_at : (spans : List (TermKey × Span)) (n : ℕ) (e : TermKey × Span) → slice_get spans n ≡ Some e → is_some (span_of e.0 spans) ≡ true
+has_at : (es : List (TermKey × TermSpans)) (n : ℕ) (e : TermKey × TermSpans) → slice_get es n ≡ Some e → is_some (find term_cmp e.0 es) ≡ true
 has_at [] n e at = cc
-has_at (s ∷ spans) zero e at =
+has_at (s ∷ es) zero e at =
     let is : s ≡ e = cc in
-    ap (λ (k : TermKey). is_some (cond (eq_by_cmp term_cmp e.0 k) (Some s.1) (span_of e.0 spans))) (ap (λ (x : TermKey × Span). x.0) is) ∙ ap (λ b. is_some (cond b (Some s.1) (span_of e.0 spans))) (ap is_eq (tied_itself term_total e.0))
-has_at (s ∷ spans) (suc n) e at = by (eq_by_cmp term_cmp e.0 s.0) (has_at spans n e at)
+    ap (λ (k : TermKey). is_some (cond (eq_by_cmp term_cmp e.0 k) (Some s.1) (find term_cmp e.0 es))) (ap (λ (x : TermKey × TermSpans). x.0) is) ∙ ap (λ b. is_some (cond b (Some s.1) (find term_cmp e.0 es))) (ap is_eq (tied_itself term_total e.0))
+has_at (s ∷ es) (suc n) e at = by (eq_by_cmp term_cmp e.0 s.0) (has_at es n e at)
   where
-    by : (b : Bool) → is_some (span_of e.0 spans) ≡ true → is_some (cond b (Some s.1) (span_of e.0 spans)) ≡ true
+    by : (b : Bool) → is_some (find term_cmp e.0 es) ≡ true → is_some (cond b (Some s.1) (find term_cmp e.0 es)) ≡ true
     by true h = refl
     by false h = h
 
@@ -134,44 +139,44 @@ term_is type_no t word e = by (t.type_no == type_no) refl e
     by true s h = let types = eqb-true t.type_no type_no s in let keys = of_key t.key h in λ i. record { type_no = types i; key = keys i }
     by false s h = cc
 
-module _ (type_no : ℕ) (from : List ℕ) (strict : Bool) (spans : List (TermKey × Span)) (sorted : T (is_sorted term_cmp spans)) (n : ℕ) where
+module _ (type_no : ℕ) (from : List ℕ) (strict : Bool) (es : List (TermKey × TermSpans)) (sorted : T (is_sorted term_cmp es)) (n : ℕ) where
   abbrev target : TermKey
   target = term_of type_no (Word from)
 
   abbrev Parts : Type 0
-  Parts = IsPartitionPoint (λ e. is_passed strict target e.0 ≡ true) (λ e. is_passed strict target e.0 ≡ false) spans n
+  Parts = IsPartitionPoint (λ e. is_passed strict target e.0 ≡ true) (λ e. is_passed strict target e.0 ≡ false) es n
 
-  abbrev at_word : List ℕ → TermKey × Span
-  at_word word = (term_of type_no (Word word), record { from = 0; to = 0 })
+  abbrev at_word : List ℕ → TermKey × TermSpans
+  at_word word = (term_of type_no (Word word), record { puts = narrowed None; deletes = narrowed None })
 
   -- words of terms before the point do not pass
-  before_point : Parts → (word : List ℕ) (j : ℕ) → ((d : TermKey × Span) → (get_or spans j d).0 ≡ term_of type_no (Word word)) → j < n → is_word_from strict from word ≡ false
+  before_point : Parts → (word : List ℕ) (j : ℕ) → ((d : TermKey × TermSpans) → (get_or es j d).0 ≡ term_of type_no (Word word)) → j < n → is_word_from strict from word ≡ false
   before_point parts word j is less =
       not_true (is_word_from strict from word) (sym (passed_words type_no from strict word) ∙ subst (λ (t : TermKey). is_passed strict target t ≡ true) (is (at_word word)) (parts.0 j (at_word word) (omega arith) less))
 
-  pub none_found : Parts → slice_get spans n ≡ None → IsWordFrom (λ t. is_some (span_of t spans)) type_no from strict None
+  pub none_found : Parts → slice_get es n ≡ None → IsWordFrom (λ t. is_some (find term_cmp t es)) type_no from strict None
   none_found parts none word has =
-      let at = at_index (term_of type_no (Word word)) spans has in
-      before_point parts word at.0 at.2 (omega (arith, at.1, none_past spans n none))
+      let at = at_index (term_of type_no (Word word)) es has in
+      before_point parts word at.0 at.2 (omega (arith, at.1, none_past es n none))
 
-  pub some_found : Parts → (e : TermKey × Span) → slice_get spans n ≡ Some e → IsWordFrom (λ t. is_some (span_of t spans)) type_no from strict (word_at type_no e.0)
+  pub some_found : Parts → (e : TermKey × TermSpans) → slice_get es n ≡ Some e → IsWordFrom (λ t. is_some (find term_cmp t es)) type_no from strict (word_at type_no e.0)
   some_found parts e found = by (word_at type_no e.0) refl
     where
-      fits : n < length spans
-      fits = slice_get_within spans n e found
+      fits : n < length es
+      fits = slice_get_within es n e found
 
-      read : (d : TermKey × Span) → get_or spans n d ≡ e
-      read d = get_or_from_slice_get spans n e d found
+      read : (d : TermKey × TermSpans) → get_or es n d ≡ e
+      read d = get_or_from_slice_get es n e d found
 
       left : is_passed strict target e.0 ≡ false
-      left = subst (λ (x : TermKey × Span). is_passed strict target x.0 ≡ false) (read e) (parts.1 n e (omega arith) fits)
+      left = subst (λ (x : TermKey × TermSpans). is_passed strict target x.0 ≡ false) (read e) (parts.1 n e (omega arith) fits)
 
       -- no word that passes comes before the term at the point
-      not_before : (word : List ℕ) → is_some (span_of (term_of type_no (Word word)) spans) ≡ true → is_word_from strict from word ≡ true → is_lt (term_cmp (term_of type_no (Word word)) e.0) ≡ false
+      not_before : (word : List ℕ) → is_some (find term_cmp (term_of type_no (Word word)) es) ≡ true → is_word_from strict from word ≡ true → is_lt (term_cmp (term_of type_no (Word word)) e.0) ≡ false
       not_before word has passes = placed (cases_lt at.0 n)
         where
-          at : (j : ℕ) × (j < length spans) × ((d : TermKey × Span) → (get_or spans j d).0 ≡ term_of type_no (Word word))
-          at = at_index (term_of type_no (Word word)) spans has
+          at : (j : ℕ) × (j < length es) × ((d : TermKey × TermSpans) → (get_or es j d).0 ≡ term_of type_no (Word word))
+          at = at_index (term_of type_no (Word word)) es has
 
           placed : (at.0 < n) ⊎ (n ≤ at.0) → is_lt (term_cmp (term_of type_no (Word word)) e.0) ≡ false
           placed (inl less) = let no = before_point parts word at.0 at.2 less in absurd cc
@@ -179,23 +184,23 @@ module _ (type_no : ℕ) (from : List ℕ) (strict : Bool) (spans : List (TermKe
             where
               further : (n < at.0) ⊎ (at.0 ≤ n) → is_lt (term_cmp (term_of type_no (Word word)) e.0) ≡ false
               further (inl less) =
-                  let rises : term_cmp e.0 (term_of type_no (Word word)) ≡ Less = subst (λ (t : TermKey). term_cmp e.0 t ≡ Less) (at.2 e) (subst (λ (x : TermKey × Span). term_cmp x.0 (get_or spans at.0 e).0 ≡ Less) (read e) (sorted_at term_cmp spans n at.0 e sorted less at.1)) in
+                  let rises : term_cmp e.0 (term_of type_no (Word word)) ≡ Less = subst (λ (t : TermKey). term_cmp e.0 t ≡ Less) (at.2 e) (subst (λ (x : TermKey × TermSpans). term_cmp x.0 (get_or es at.0 e).0 ≡ Less) (read e) (sorted_at term_cmp es n at.0 e sorted less at.1)) in
                   ap is_lt (reversed (term_of type_no (Word word)) e.0 ∙ ap ordering_reverse rises)
               further (inr less) =
                   let same : at.0 ≡ n = omega arith in
-                  let is : e.0 ≡ term_of type_no (Word word) = ap (λ (x : TermKey × Span). x.0) (sym (read e)) ∙ ap (λ k. (get_or spans k e).0) (sym same) ∙ at.2 e in
+                  let is : e.0 ≡ term_of type_no (Word word) = ap (λ (x : TermKey × TermSpans). x.0) (sym (read e)) ∙ ap (λ k. (get_or es k e).0) (sym same) ∙ at.2 e in
                   subst (λ (t : TermKey). is_lt (term_cmp t e.0) ≡ false) is (ap is_lt (tied_itself term_total e.0))
 
-      by : (found_word : Option (List ℕ)) → word_at type_no e.0 ≡ found_word → IsWordFrom (λ t. is_some (span_of t spans)) type_no from strict found_word
+      by : (found_word : Option (List ℕ)) → word_at type_no e.0 ≡ found_word → IsWordFrom (λ t. is_some (find term_cmp t es)) type_no from strict found_word
       by None w = λ word has. settled word has (is_word_from strict from word) refl
         where
-          settled : (word : List ℕ) → is_some (span_of (term_of type_no (Word word)) spans) ≡ true → (b : Bool) → is_word_from strict from word ≡ b → b ≡ false
+          settled : (word : List ℕ) → is_some (find term_cmp (term_of type_no (Word word)) es) ≡ true → (b : Bool) → is_word_from strict from word ≡ b → b ≡ false
           settled word has true p = absurd (kept_type strict type_no from word e.0 left (not_before word has p) w)
           settled word has false p = refl
       by (Some word) w =
           let is : e.0 ≡ term_of type_no (Word word) = term_is type_no e.0 word w in
           record {
-            there = subst (λ (t : TermKey). is_some (span_of t spans) ≡ true) is (has_at spans n e found);
+            there = subst (λ (t : TermKey). is_some (find term_cmp t es) ≡ true) is (has_at es n e found);
             passes = not_false (is_word_from strict from word) (sym (passed_words type_no from strict word) ∙ subst (λ (t : TermKey). is_passed strict target t ≡ false) is left);
             least = λ other has passes. ap is_lt (sym (term_cmp-words type_no other word)) ∙ subst (λ (t : TermKey). is_lt (term_cmp (term_of type_no (Word other)) t) ≡ false) is (not_before other has passes);
           }
@@ -331,3 +336,10 @@ module _ {X V : Type 0} (tag : TermKey → X → Place × V) (keeps : (t : TermK
       by : (b : Bool) → (b || is_some (span_of t spans)) ≡ is_some (cond b (Some e.1) (span_of t spans))
       by true = refl
       by false = refl
+
+-- a layer has exactly the terms that its directory has
+pub terms_laid : (t : TermKey) (es : List (TermKey × TermSpans)) (ks : List DocKey) (ps : List Posting) → AreLaid (delete_rows (delete_spans es) ks) (delete_spans es) (length ks) → AreLaid (put_rows (put_spans es) ps) (put_spans es) (length ps)
+    → has_spans t es ≡ has_term t (changes_of (finite.from_sorted (delete_rows (delete_spans es) ks)) (finite.from_sorted (put_rows (put_spans es) ps)))
+terms_laid t es ks ps deleted put =
+    λ i. sym (ap (list_any (is_under t)) (finite.entries-from_sorted place_cmp (delete_rows (delete_spans es) ks) deleted.sorted) ∙ any_told (λ s k. (place_of s k, tt)) (λ s k. refl) t (delete_spans es) ks deleted.told.within) i
+    || sym (ap (list_any (is_under t)) (finite.entries-from_sorted place_cmp (put_rows (put_spans es) ps) put.sorted) ∙ any_told (λ s p. (place_of s p.key, p.audience)) (λ s p. refl) t (put_spans es) ps put.told.within) i

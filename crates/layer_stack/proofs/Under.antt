@@ -3,7 +3,7 @@ use Rattle.std.proofs.Common.{◌≡◌, ℕ, ◌<◌, ◌≤◌, Bool, true, fa
 use Rattle.std.specs.Cmp.{Equal-is}
 use Rattle.std.specs.Prelude.{T}
 use Rattle.std.specs.FinMap as finite
-use Rattle.std.specs.FinMap.Entries.{is_sorted, below_all, is_sorted-where_key}
+use Rattle.std.specs.FinMap.Entries.{find, is_sorted, below_all, is_sorted-where_key}
 use Rattle.std.specs.declared.cmp.Ordering.{Ordering}
 use Rattle.std.specs.declared.cmp.Ordering.TheVariants.{Less, Equal, Greater}
 use Rattle.std.specs.Ordering.{is_lt, is_eq, eq_by_cmp, ordering_then}
@@ -87,12 +87,12 @@ module _ {X V : Type 0} (tag : TermKey → X → Place × V) (key : X → DocKey
   tags_ranked t (x ∷ xs) sorted =
       (below_tags t (key x) xs (subst (λ (p : Place). T (below_all place_cmp p (map (tag t) xs))) (keeps t x) (first _ _ sorted)), tags_ranked t xs (second _ _ sorted))
 
-pub found_holds : (Q : Span → Type 0) (t : TermKey) (spans : List (TermKey × Span)) (s : Span) → All (λ e. Q e.1) spans → span_of t spans ≡ Some s → Q s
-found_holds Q t [] s all e = cc
-found_holds Q t (d ∷ spans) s all e =
-    elim (eq_by_cmp term_cmp t d.0) as (λ b. cond b (Some d.1) (span_of t spans) ≡ Some s → Q s) [
-      | true ↦ λ f. subst Q (ap (λ o. unwrap_or o s) f) (All-head (λ (x : TermKey × Span). Q x.1) d spans all)
-      | false ↦ λ f. found_holds Q t spans s (All-tail (λ (x : TermKey × Span). Q x.1) d spans all) f
+pub found_holds : {X : Type 0} (Q : X → Type 0) (t : TermKey) (es : List (TermKey × X)) (x : X) → All (λ e. Q e.1) es → find term_cmp t es ≡ Some x → Q x
+found_holds Q t [] x all e = cc
+found_holds {X} Q t (d ∷ es) x all e =
+    elim (eq_by_cmp term_cmp t d.0) as (λ b. cond b (Some d.1) (find term_cmp t es) ≡ Some x → Q x) [
+      | true ↦ λ f. subst Q (ap (λ o. unwrap_or o x) f) (All-head (λ (y : TermKey × X). Q y.1) d es all)
+      | false ↦ λ f. found_holds Q t es x (All-tail (λ (y : TermKey × X). Q y.1) d es all) f
     ] e
 
 -- the span of a term is within the rows

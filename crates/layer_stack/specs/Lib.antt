@@ -3,6 +3,7 @@ pub mod Places
 pub mod Postings
 pub mod Runs
 pub mod Spans
+pub mod Directories
 pub mod Stacks
 pub mod Words
 pub mod Sources

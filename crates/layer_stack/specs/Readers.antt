@@ -1,18 +1,18 @@
 -- Layers that are read under one term after another.
 use Rattle.std.specs.Prelude.{◌≡◌, List, map, All}
 use Rattle.std.specs.declared.cmp.Ordering.TheVariants.{Less}
-use Rattle.layer_stack.specs.declared.directory.Span.{Span}
+use Rattle.layer_stack.specs.declared.term_spans.TermSpans.{TermSpans}
 use Rattle.layer_stack.specs.declared.place.TermKey.{TermKey}
 use Rattle.layer_stack.specs.Places.{term_cmp}
 use Rattle.layer_stack.specs.Postings.{PostingChanges}
 
--- spans whose terms all come before another term
-abbrev pub AreBefore : TermKey → List (TermKey × Span) → Type 0
+-- entries whose terms all come before another term
+abbrev pub AreBefore : TermKey → List (TermKey × TermSpans) → Type 0
 AreBefore term = All (λ e. term_cmp e.0 term ≡ Less)
 
--- what the layer changes, and the spans that are passed
+-- what the layer changes, and the entries of its directory that are passed
 abbrev pub ReaderValue : Type 0
-ReaderValue = PostingChanges × List (TermKey × Span)
+ReaderValue = PostingChanges × List (TermKey × TermSpans)
 
 -- the layers that are read
 abbrev pub layers_read : List ReaderValue → List PostingChanges

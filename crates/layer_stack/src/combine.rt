@@ -1,16 +1,18 @@
 //! The oldest layers of a stack as one. The terms that the newer ones of them leave alone are
 //! copied from the oldest, and only the others are read through all.
-ghost use Rattle.std.specs.Prelude.{◌≡◌, ◌≤◌, ◌<◌, T, cond, take, length, false, IfOk, OnOk};
+ghost use Rattle.std.specs.Prelude.{◌≡◌, ◌≤◌, ◌<◌, T, cond, take, length, IfOk, IfSome, OnOk};
 ghost use Rattle.std.specs.FinMap.{is_sorted};
 ghost use Rattle.posting_lists.specs.Postings.{section};
 ghost use Rattle.layer_base.specs.Layers.{stack_table};
 ghost use Rattle.layer_stack.specs.Places.{term_cmp};
 ghost use Rattle.layer_stack.specs.Postings.{putting_all, putting_list};
-ghost use Rattle.layer_stack.specs.Spans.{spanned, IsSpans};
+ghost use Rattle.layer_stack.specs.Directories.{put_spans};
+ghost use Rattle.layer_stack.specs.Spans.{spanned, told, IsSpans};
 ghost use Rattle.layer_stack.specs.Combined.{AreChanged, is_among, StandsAlone};
 
 use crate::directory::{Directory, Span};
 use crate::front::FrontReader;
+use crate::term_spans::puts_in;
 use crate::{Delta, Stack, TermKey};
 use layer_base::{last_words, look_up_near};
 use posting_lists::PostingColumns;
@@ -44,17 +46,18 @@ pub(crate) fn combined(
 ) -> Result<Delta, AllocError>
     requires count { count ≤ length stack.now.0 }
     requires sorted { T (is_sorted term_cmp changed.now) }
-    requires spans { IsSpans (length postings.now) directory.now }
-    requires alone { StandsAlone changed.now directory.now postings.now (stack_table (take count stack.now.0)) }
+    requires spans { IsSpans (length postings.now) (put_spans directory.now) }
+    requires alone { StandsAlone changed.now (put_spans directory.now) postings.now (stack_table (take count stack.now.0)) }
     ensures { IfOk result (λ delta. delta ≡ putting_all (stack_table (take count stack.now.0))) }
 {
     let mut front = FrontReader::of(alloc, stack, count)?;
     let mut delta = Delta::new(alloc);
     let mut at = 0;
-    for (term, span) in directory.iter() {
+    for (term, spans) in directory.iter() {
         let to = passed(changed, at, term);
         front.put_terms(&mut delta, &changed[at..to])?;
-        put_unchanged(&mut delta, changed, at, term, postings, *span)?;
+        let span = puts_in(Some(*spans));
+        put_unchanged(&mut delta, changed, at, term, postings, span)?;
         at = to;
     }
     front.put_terms(&mut delta, &changed[at..changed.len()])?;
@@ -74,20 +77,23 @@ fn passed(terms: &[(TermKey, ())], from: usize, term: &TermKey) -> usize
     terms.len()
 }
 
-// Puts the postings of a span, unless their term is among the changed ones, where the search for it
-// begins at a hint.
+// Puts the postings of a span, if there is one, unless their term is among the changed ones, where
+// the search for it begins at a hint.
 fn put_unchanged(
     delta: &mut Delta,
     changed: &[(TermKey, ())],
     mut hint: usize,
     term: &TermKey,
     postings: &PostingColumns,
-    span: Span,
+    span: Option<Span>,
 ) -> Result<(), AllocError>
     requires sorted { T (is_sorted term_cmp changed.now) }
-    requires within { (span.from ≤ span.to) × (span.to ≤ length postings.now) }
-    ensures { OnOk result (delta.new ≡ cond (is_among term.now changed.now) delta.old (putting_list term.now (spanned span postings.now) delta.old)) }
+    requires within { IfSome span (λ s. (s.from ≤ s.to) × (s.to ≤ length postings.now)) }
+    ensures { OnOk result (delta.new ≡ cond (is_among term.now changed.now) delta.old (putting_list term.now (told span postings.now) delta.old)) }
 {
+    let Some(span) = span else {
+        return Ok(());
+    };
     if look_up_near(changed, &mut hint, term).is_some() {
         return Ok(());
     }

@@ -1,15 +1,16 @@
-ghost use Rattle.std.specs.Prelude.{◌≡◌, ◌≤◌, ◌||◌, IfOk, IfSome, OnOk, length, is_some, take};
+ghost use Rattle.std.specs.Prelude.{◌≡◌, ◌≤◌, ◌||◌, IfOk, IfSome, OnOk, length, take};
 ghost use Rattle.layer_stack.specs.Combined.{is_among};
 ghost use Rattle.layer_stack.specs.Words.{IsWordFrom};
-ghost use Rattle.std.specs.Prelude.{T};
 ghost use Rattle.indexmap.specs.IndexMap.{insert_entry};
-ghost use Rattle.std.specs.FinMap.{is_sorted};
 ghost use Rattle.std.specs.Ordering.{eq_by_cmp};
 ghost use Rattle.layer_stack.specs.Places.{term_cmp, term_of};
-ghost use Rattle.layer_stack.specs.Spans.{spanned, span_of, told};
+ghost use Rattle.layer_stack.specs.Spans.{spanned, span_of, told, IsSpans};
+ghost use Rattle.layer_stack.specs.Directories.{IsDirectory, put_spans, delete_spans, has_spans, narrowed, puts_in, deletes_in};
 ghost use Rattle.layer_stack.specs.Readers.{AreBefore};
 
 use crate::TermKey;
+use crate::joined::{Joined, after, next};
+use crate::term_spans::TermSpans;
 use crate::words::{is_passed, word_at};
 use indexmap::IndexMap;
 use indexmap::map::Iter;
@@ -25,48 +26,54 @@ pub(crate) struct Span {
     pub(crate) to: usize,
 }
 
-/// Where the rows of each term stand among rows in the order of places.
+/// The terms of a layer in their order, each with where its puts and its deletes stand.
 #[derive(Drop)]
 pub(crate) struct Directory {
-    spans: IndexMap<TermKey, Span>,
+    spans: IndexMap<TermKey, TermSpans>,
 }
 
 impl Model for Directory {
     ghost use Rattle.std.specs.Prelude.{List};
     ghost use Rattle.layer_stack.specs.declared.place.TermKey.{TermKey};
-    ghost use Rattle.layer_stack.specs.declared.directory.Span.{Span};
+    ghost use Rattle.layer_stack.specs.declared.term_spans.TermSpans.{TermSpans};
+    ghost use Rattle.layer_stack.specs.Directories.{IsDirectory};
 
-    ghost Value = { List (TermKey × Span) };
+    ghost Value = { List (TermKey × TermSpans) };
 
     ghost view = { λ d. d.spans.entries };
+
+    ghost invariant = { λ d. IsDirectory d.spans.entries };
 }
 
 impl Directory {
-    // The directory of spans in the order of their terms.
-    pub(crate) fn of(alloc: Global, spans: &[(TermKey, Span)]) -> Result<Directory, AllocError>
-        requires { T (is_sorted term_cmp spans.now) }
-        ensures { IfOk result (λ d. d ≡ spans.now) }
+    // The directory of the spans of puts and of deletes, both in the order of their terms. It goes
+    // along both, and adds each term once.
+    pub(crate) fn of(
+        alloc: Global,
+        puts: &[(TermKey, Span)],
+        deletes: &[(TermKey, Span)],
+    ) -> Result<Directory, AllocError>
+        requires puts { IsSpans u32.MAX puts.now }
+        requires deletes { IsSpans u32.MAX deletes.now }
+        ensures puts { IfOk result (λ d. put_spans d ≡ puts.now) }
+        ensures deletes { IfOk result (λ d. delete_spans d ≡ deletes.now) }
     {
-        let mut directory = Directory {
-            spans: IndexMap::with_capacity(alloc, spans.len())?,
-        };
-        for (term, span) in spans {
-            directory.note(term.type_no, term.key, *span)?;
+        let mut spans = IndexMap::with_capacity(alloc, puts.len().max(deletes.len()))?;
+        let mut put = 0;
+        let mut deleted = 0;
+        while let Some(joined) = next(puts, put, deletes, deleted) {
+            add(&mut spans, &joined)?;
+            put = after(put, joined.puts);
+            deleted = after(deleted, joined.deletes);
         }
-        Ok(directory)
+        Ok(Directory { spans })
     }
 
-    fn note(&mut self, type_no: u16, key: Key, span: Span) -> Result<(), AllocError>
-        ensures { OnOk result (self.new ≡ insert_entry (eq_by_cmp term_cmp) self.old (term_of type_no key) span) }
-    {
-        self.spans.insert(TermKey { type_no, key }, span)?;
-        Ok(())
-    }
-
-    // Where the rows of a term stand. None exactly where it has none. Where there are no rows at
-    // all, as among the deletes of most layers, no hash is made.
-    pub(crate) fn span(&self, term: &TermKey) -> Option<Span>
-        ensures { result ≡ span_of term.now self.now }
+    // Where the rows of a term stand. None exactly where it has none. Where there are no terms at
+    // all no hash is made.
+    pub(crate) fn spans(&self, term: &TermKey) -> Option<TermSpans>
+        ensures puts { puts_in result ≡ span_of term.now (put_spans self.now) }
+        ensures deletes { deletes_in result ≡ span_of term.now (delete_spans self.now) }
     {
         if self.spans.is_empty() {
             return None;
@@ -76,17 +83,17 @@ impl Directory {
 
     // Where the rows of a term stand, given a place up to which all terms come before it. The place moves
     // on to where the term stands or would stand.
-    pub(crate) fn span_from(&self, at: &mut usize, term: &TermKey) -> Option<Span>
-        requires sorted { T (is_sorted term_cmp self.now) }
-        requires passed { AreBefore term.now (take at.old self.now) }
-        ensures span { result ≡ span_of term.now self.now }
+    pub(crate) fn spans_from(&self, at: &mut usize, term: &TermKey) -> Option<TermSpans>
+        requires { AreBefore term.now (take at.old self.now) }
+        ensures puts { puts_in result ≡ span_of term.now (put_spans self.now) }
+        ensures deletes { deletes_in result ≡ span_of term.now (delete_spans self.now) }
         ensures passed { AreBefore term.now (take at.new self.now) }
     {
         while *at < self.spans.len() {
-            let (found, span) = self.spans.get_index(*at)?;
+            let (found, spans) = self.spans.get_index(*at)?;
             match found.cmp(term) {
                 Ordering::Less => *at += 1,
-                Ordering::Equal => return Some(*span),
+                Ordering::Equal => return Some(*spans),
                 Ordering::Greater => return None,
             }
         }
@@ -94,17 +101,18 @@ impl Directory {
     }
 
     // The terms in their order, each with where its rows stand.
-    pub(crate) fn iter(&self) -> Iter<'_, TermKey, Span>
-        ensures { result ≡ self.now }
+    pub(crate) fn iter(&self) -> Iter<'_, TermKey, TermSpans>
+        ensures entries { result ≡ self.now }
+        ensures is { IsDirectory self.now }
     {
         self.spans.iter()
     }
 
     // Adds the terms to a list.
     pub(crate) fn note_terms(&self, terms: &mut Vec<(TermKey, ())>) -> Result<(), AllocError>
-        ensures { OnOk result ((t : TermKey) → is_among t terms.new.items ≡ (is_among t terms.old.items || is_among t self.now)) }
+        ensures { OnOk result ((t : TermKey) → is_among t terms.new.items ≡ (is_among t terms.old.items || has_spans t self.now)) }
     {
-        for (term, _span) in self.iter() {
+        for (term, _spans) in self.iter() {
             terms.push((*term, ()))?;
         }
         Ok(())
@@ -112,8 +120,7 @@ impl Directory {
 
     // The least word from a given one on, past it where `strict`, at which a term of a type starts.
     pub(crate) fn word_from(&self, type_no: u16, from: &Word, strict: bool) -> Option<Word>
-        requires { T (is_sorted term_cmp self.now) }
-        ensures { IsWordFrom (λ t. is_some (span_of t self.now)) type_no from.now strict result }
+        ensures { IsWordFrom (λ t. has_spans t self.now) type_no from.now strict result }
     {
         let from = TermKey {
             type_no,
@@ -121,10 +128,32 @@ impl Directory {
         };
         let at = self
             .spans
-            .partition_point(|term, _span| is_passed(strict, &from, term));
-        let (term, _span) = self.spans.get_index(at)?;
+            .partition_point(|term, _spans| is_passed(strict, &from, term));
+        let (term, _spans) = self.spans.get_index(at)?;
         word_at(term, type_no)
     }
+}
+
+// Adds what two lists have at a term.
+fn add(spans: &mut IndexMap<TermKey, TermSpans>, joined: &Joined) -> Result<(), AllocError>
+    requires puts { IfSome joined.now.puts (λ s. (s.from ≤ u32.MAX) × (s.to ≤ u32.MAX)) }
+    requires deletes { IfSome joined.now.deletes (λ s. (s.from ≤ u32.MAX) × (s.to ≤ u32.MAX)) }
+    ensures { OnOk result (spans.new.entries ≡ insert_entry (eq_by_cmp term_cmp) spans.old.entries joined.now.term (record { puts = narrowed joined.now.puts; deletes = narrowed joined.now.deletes })) }
+{
+    let found = TermSpans::of(joined.puts, joined.deletes);
+    note(spans, joined.term.type_no, joined.term.key, found)
+}
+
+fn note(
+    spans: &mut IndexMap<TermKey, TermSpans>,
+    type_no: u16,
+    key: Key,
+    found: TermSpans,
+) -> Result<(), AllocError>
+    ensures { OnOk result (spans.new.entries ≡ insert_entry (eq_by_cmp term_cmp) spans.old.entries (term_of type_no key) found) }
+{
+    spans.insert(TermKey { type_no, key }, found)?;
+    Ok(())
 }
 
 pub(crate) fn is_same(term: &TermKey, other: &TermKey) -> bool

@@ -13,7 +13,7 @@ use crate::directory::{Directory, Span, keys_at};
 use crate::part::Part;
 use crate::reader::LayerReader;
 use crate::settle::{settle_keys, settle_postings};
-use crate::words::earlier;
+use crate::term_spans::{deletes_in, puts_in};
 use crate::{Delta, Stack, TermKey};
 use posting_lists::{ListCursor, PostingColumns};
 use std::alloc::{AllocError, Global};
@@ -22,15 +22,14 @@ use std::sync::ledger::Ledger;
 use uni_base::{DocKey, Steps, Word};
 
 /// How many deletes, and how many puts, a layer has at most.
-const MOST_ROWS: usize = 1 << 61;
+const MOST_ROWS: usize = u32::MAX as usize;
 
 /// A layer of a stack of postings: the postings that it deletes, and those that it puts. The
 /// postings of all terms lie in one row of columns, and so do the deleted keys.
 #[derive(Drop)]
 pub struct Layer {
-    puts: Directory,
+    directory: Directory,
     postings: PostingColumns,
-    deletes: Directory,
     deleted: Vec<DocKey>,
 }
 
@@ -41,14 +40,15 @@ impl Model for Layer {
     ghost use Rattle.layer_stack.specs.Places.{place_cmp};
     ghost use Rattle.layer_stack.specs.Postings.{PostingChanges};
     ghost use Rattle.layer_stack.specs.Spans.{put_rows, delete_rows, AreLaid};
+    ghost use Rattle.layer_stack.specs.Directories.{put_spans, delete_spans};
 
     ghost Value = { PostingChanges };
 
     ghost coded = { Prim.hlevel (codes, finite.code) };
 
-    ghost view = { λ l. record { deletes = finite.from_sorted (delete_rows l.deletes l.deleted.items); puts = finite.from_sorted (put_rows l.puts l.postings) } };
+    ghost view = { λ l. record { deletes = finite.from_sorted (delete_rows (delete_spans l.directory) l.deleted.items); puts = finite.from_sorted (put_rows (put_spans l.directory) l.postings) } };
 
-    ghost invariant = { λ l. AreLaid (put_rows l.puts l.postings) l.puts (length l.postings) × AreLaid (delete_rows l.deletes l.deleted.items) l.deletes (length l.deleted.items) };
+    ghost invariant = { λ l. AreLaid (put_rows (put_spans l.directory) l.postings) (put_spans l.directory) (length l.postings) × AreLaid (delete_rows (delete_spans l.directory) l.deleted.items) (delete_spans l.directory) (length l.deleted.items) };
 }
 
 impl Layer {
@@ -68,9 +68,8 @@ impl Layer {
             return Err(AllocError);
         }
         Ok(Layer {
-            puts: Directory::of(alloc, &puts)?,
+            directory: Directory::of(alloc, &puts, &deletes)?,
             postings,
-            deletes: Directory::of(alloc, &deletes)?,
             deleted,
         })
     }
@@ -97,17 +96,16 @@ impl Layer {
         ensures counted { steps.new ≡ steps.old + 1 }
     {
         steps.tick();
-        let deleted = self.deletes.word_from(type_no, from, strict);
-        let put = self.puts.word_from(type_no, from, strict);
-        earlier(deleted, put)
+        self.directory.word_from(type_no, from, strict)
     }
 
     // What it deletes and puts under a term.
     pub(crate) fn part(&self, term: &TermKey) -> Part<'_>
         ensures { result ≡ (deletes_of term.now self.now, postings_of term.now self.now.puts) }
     {
-        let deletes = keys_at(&self.deleted, self.deletes.span(term));
-        let puts = list_at(&self.postings, self.puts.span(term));
+        let found = self.directory.spans(term);
+        let deletes = keys_at(&self.deleted, deletes_in(found));
+        let puts = list_at(&self.postings, puts_in(found));
         Part::new(deletes, puts)
     }
 
@@ -115,15 +113,14 @@ impl Layer {
     pub(crate) fn reader(&self) -> LayerReader<'_>
         ensures { result ≡ (self.now, []) }
     {
-        LayerReader::over(&self.puts, &self.postings, &self.deletes, &self.deleted)
+        LayerReader::over(&self.directory, &self.postings, &self.deleted)
     }
 
     // Adds the terms at which it deletes or puts to a list.
     pub(crate) fn note_terms(&self, terms: &mut Vec<(TermKey, ())>) -> Result<(), AllocError>
         ensures { OnOk result ((t : TermKey) → is_among t terms.new.items ≡ (is_among t terms.old.items || has_term t self.now)) }
     {
-        self.deletes.note_terms(terms)?;
-        self.puts.note_terms(terms)
+        self.directory.note_terms(terms)
     }
 
     // Puts what the first layers of a stack stand for, of which this is the oldest one. The changed
@@ -140,7 +137,14 @@ impl Layer {
         requires changed { AreChanged (section 1 count stack.now.0) changed.now }
         ensures { IfOk result (λ delta. delta ≡ putting_all (stack_table (take count stack.now.0))) }
     {
-        combined(alloc, stack, count, changed, &self.puts, &self.postings)
+        combined(
+            alloc,
+            stack,
+            count,
+            changed,
+            &self.directory,
+            &self.postings,
+        )
     }
 }
 

@@ -8,6 +8,7 @@ mod cursor;
 mod delta;
 mod directory;
 mod front;
+mod joined;
 mod layer;
 mod merge;
 mod merging;
@@ -18,6 +19,7 @@ mod reader;
 mod runs;
 mod settle;
 mod stack;
+mod term_spans;
 #[cfg(test)]
 mod tests;
 mod words;

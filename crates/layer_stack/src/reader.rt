@@ -1,5 +1,6 @@
 ghost use Rattle.std.specs.Prelude.{◌≡◌, [], length, OnOk};
 ghost use Rattle.std.specs.FinMap as finite;
+ghost use Rattle.layer_stack.specs.Directories.{put_spans, delete_spans};
 ghost use Rattle.layer_stack.specs.Postings.{changes_of, postings_of, deletes_of};
 ghost use Rattle.layer_stack.specs.Readers.{AreBefore};
 ghost use Rattle.layer_stack.specs.Spans.{put_rows, delete_rows, AreLaid};
@@ -10,28 +11,28 @@ use crate::directory::{Directory, keys_at};
 use crate::layer::list_at;
 use crate::part::Part;
 use crate::parts::add_part;
+use crate::term_spans::{deletes_in, puts_in};
 use posting_lists::PostingColumns;
 use std::alloc::AllocError;
 use std::marker::Model;
 use uni_base::DocKey;
 
 /// What a layer has under one term after another. The terms are asked for in their order, so that
-/// no term is searched for: the reader goes along the directories.
+/// no term is searched for: the reader goes along the directory.
 #[derive(Drop)]
 pub(crate) struct LayerReader<'a> {
-    puts: &'a Directory,
+    directory: &'a Directory,
     postings: &'a PostingColumns,
-    deletes: &'a Directory,
     deleted: &'a [DocKey],
-    // How many terms of each directory are passed.
-    puts_at: usize,
-    deletes_at: usize,
+    // How many terms are passed.
+    at: usize,
 }
 
 impl<'a> Model for LayerReader<'a> {
-    ghost use Rattle.std.specs.Prelude.{length, take, ◌++◌};
+    ghost use Rattle.std.specs.Prelude.{length, take};
     ghost use Rattle.std.specs.Coded.{codes};
     ghost use Rattle.std.specs.FinMap as finite;
+    ghost use Rattle.layer_stack.specs.Directories.{put_spans, delete_spans};
     ghost use Rattle.layer_stack.specs.Postings.{changes_of};
     ghost use Rattle.layer_stack.specs.Readers.{ReaderValue};
     ghost use Rattle.layer_stack.specs.Spans.{put_rows, delete_rows, AreLaid};
@@ -40,30 +41,27 @@ impl<'a> Model for LayerReader<'a> {
 
     ghost coded = { Prim.hlevel (codes, finite.code) };
 
-    ghost view = { λ r. (changes_of (finite.from_sorted (delete_rows r.deletes.now r.deleted.now)) (finite.from_sorted (put_rows r.puts.now r.postings.now)), take r.deletes_at r.deletes.now ++ take r.puts_at r.puts.now) };
+    ghost view = { λ r. (changes_of (finite.from_sorted (delete_rows (delete_spans r.directory.now) r.deleted.now)) (finite.from_sorted (put_rows (put_spans r.directory.now) r.postings.now)), take r.at r.directory.now) };
 
-    ghost invariant = { λ r. AreLaid (put_rows r.puts.now r.postings.now) r.puts.now (length r.postings.now) × AreLaid (delete_rows r.deletes.now r.deleted.now) r.deletes.now (length r.deleted.now) };
+    ghost invariant = { λ r. AreLaid (put_rows (put_spans r.directory.now) r.postings.now) (put_spans r.directory.now) (length r.postings.now) × AreLaid (delete_rows (delete_spans r.directory.now) r.deleted.now) (delete_spans r.directory.now) (length r.deleted.now) };
 }
 
 impl<'a> LayerReader<'a> {
-    // A reader of postings and deleted keys, which directories tell.
+    // A reader of postings and deleted keys, which a directory tells.
     pub(crate) fn over(
-        puts: &'a Directory,
+        directory: &'a Directory,
         postings: &'a PostingColumns,
-        deletes: &'a Directory,
         deleted: &'a [DocKey],
     ) -> LayerReader<'a>
-        requires put { AreLaid (put_rows puts.now postings.now) puts.now (length postings.now) }
-        requires deleted { AreLaid (delete_rows deletes.now deleted.now) deletes.now (length deleted.now) }
-        ensures { result ≡ (changes_of (finite.from_sorted (delete_rows deletes.now deleted.now)) (finite.from_sorted (put_rows puts.now postings.now)), []) }
+        requires put { AreLaid (put_rows (put_spans directory.now) postings.now) (put_spans directory.now) (length postings.now) }
+        requires deleted { AreLaid (delete_rows (delete_spans directory.now) deleted.now) (delete_spans directory.now) (length deleted.now) }
+        ensures { result ≡ (changes_of (finite.from_sorted (delete_rows (delete_spans directory.now) deleted.now)) (finite.from_sorted (put_rows (put_spans directory.now) postings.now)), []) }
     {
         LayerReader {
-            puts,
+            directory,
             postings,
-            deletes,
             deleted,
-            puts_at: 0,
-            deletes_at: 0,
+            at: 0,
         }
     }
 
@@ -71,8 +69,7 @@ impl<'a> LayerReader<'a> {
     pub(crate) fn restart(&mut self)
         ensures { self.new ≡ (self.old.0, []) }
     {
-        self.puts_at = 0;
-        self.deletes_at = 0;
+        self.at = 0;
     }
 
     // Adds what the layer has under a term, if it has anything, and passes the terms before it.
@@ -86,13 +83,12 @@ impl<'a> LayerReader<'a> {
         ensures same { self.new.0 ≡ self.old.0 }
         ensures passed { AreBefore term.now self.new.1 }
     {
-        let deleted = self.deletes.span_from(&mut self.deletes_at, term);
-        let put = self.puts.span_from(&mut self.puts_at, term);
-        if deleted.is_none() && put.is_none() {
+        let found = self.directory.spans_from(&mut self.at, term);
+        if found.is_none() {
             return Ok(());
         }
-        let keys = keys_at(self.deleted, deleted);
-        let list = list_at(self.postings, put);
+        let keys = keys_at(self.deleted, deletes_in(found));
+        let list = list_at(self.postings, puts_in(found));
         add_part(parts, Part::new(keys, list))
     }
 }

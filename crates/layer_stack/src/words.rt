@@ -1,9 +1,6 @@
-ghost use Rattle.std.specs.Prelude.{◌≡◌, ◌||◌};
-ghost use Rattle.std.specs.Ordering.{is_lt, nat_cmp};
-ghost use Rattle.std.specs.Cmp.Lexicographic.{slice_cmp};
+ghost use Rattle.std.specs.Prelude.{◌≡◌};
 ghost use Rattle.layer_stack.specs.Places.{term_cmp};
 ghost use Rattle.layer_stack.specs.Spans.{is_passed, word_at};
-ghost use Rattle.layer_stack.specs.Spans.{earlier};
 
 use crate::TermKey;
 use std::cmp::Ordering;
@@ -30,16 +27,5 @@ pub(crate) fn word_at(term: &TermKey, type_no: u16) -> Option<Word>
     match term.key {
         Key::Id(_) => None,
         Key::Word(word) => Some(word),
-    }
-}
-
-// The lesser of two words that may be missing.
-pub(crate) fn earlier(first: Option<Word>, second: Option<Word>) -> Option<Word>
-    ensures { result ≡ earlier first second }
-{
-    match (first, second) {
-        (None, second) => second,
-        (first, None) => first,
-        (Some(first), Some(second)) => Some(if second < first { second } else { first }),
     }
 }

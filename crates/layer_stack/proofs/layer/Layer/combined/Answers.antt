@@ -1,4 +1,5 @@
 use Rattle.std.proofs.Common.{ap, ◌∙◌, sym}
+use Rattle.layer_stack.specs.Directories.{put_spans}
 use Rattle.layer_stack.specs.Postings.{postings_of}
 use Rattle.layer_stack.proofs.Combined.{oldest_alone}
 use Rattle.layer_stack.proofs.Under.{postings_told}
@@ -7,5 +8,5 @@ use Rattle.layer_stack.proofs.layer.Layer.combined.Goals as goal
 pub combined-requires-clause-alone : goal.combined-requires-clause-alone
 combined-requires-clause-alone c =
     let l = c.self.inside in
-    oldest_alone c.args.stack.now.0 c.args.count c.args.self.now c.args.changed.now l.puts l.postings c.requires.oldest c.requires.count.0 c.requires.changed
-    (λ t. ap (λ v. postings_of t v.puts) (sym c.self.view_is) ∙ postings_told t l.puts l.postings c.self.invariant.0)
+    oldest_alone c.args.stack.now.0 c.args.count c.args.self.now c.args.changed.now (put_spans l.directory) l.postings c.requires.oldest c.requires.count.0 c.requires.changed
+    (λ t. ap (λ v. postings_of t v.puts) (sym c.self.view_is) ∙ postings_told t (put_spans l.directory) l.postings c.self.invariant.0)

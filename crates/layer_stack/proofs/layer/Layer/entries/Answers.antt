@@ -1,4 +1,5 @@
 use Rattle.std.proofs.Common.{rules, arith, ◌≡◌, length, ap, ◌∙◌}
+use Rattle.layer_stack.specs.Directories.{put_spans, delete_spans}
 use Rattle.layer_stack.specs.Postings.{entries_of}
 use Rattle.layer_stack.specs.Spans.{put_rows, delete_rows}
 use Rattle.layer_stack.proofs.Laid.{len-from_sorted}
@@ -7,8 +8,8 @@ use Rattle.layer_stack.proofs.layer.Layer.entries.Goals as goal
 pub returns-clause-entries : goal.returns-clause-entries
 returns-clause-entries c =
     let l = c.self.inside in
-    let puts = len-from_sorted (put_rows l.puts l.postings) c.self.invariant.0.sorted ∙ c.self.invariant.0.count in
-    let deletes = len-from_sorted (delete_rows l.deletes l.deleted.items) c.self.invariant.1.sorted ∙ c.self.invariant.1.count in
+    let puts = len-from_sorted (put_rows (put_spans l.directory) l.postings) c.self.invariant.0.sorted ∙ c.self.invariant.0.count in
+    let deletes = len-from_sorted (delete_rows (delete_spans l.directory) l.deleted.items) c.self.invariant.1.sorted ∙ c.self.invariant.1.count in
     let first : c.len.result ≡ length l.postings = c.len.ensures in
     let second : c.len-2.result ≡ length l.deleted.items = search rules in
     omega (arith, puts, deletes, first, second, ap entries_of c.self.view_is)

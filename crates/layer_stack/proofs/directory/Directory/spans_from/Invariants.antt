@@ -1,6 +1,6 @@
 use Rattle.std.proofs.Common.{◌-◌, length, take}
 use Rattle.layer_stack.specs.Readers.{AreBefore}
-use Rattle.layer_stack.proofs.directory.Directory.span_from.Given as goal
+use Rattle.layer_stack.proofs.directory.Directory.spans_from.Given as goal
 
 abbrev pub invariant-loop-at : goal.invariant-loop-at
 invariant-loop-at l = AreBefore l.term (take l.at l.self)
