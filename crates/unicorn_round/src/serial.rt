@@ -31,8 +31,8 @@ use uni_table::{Command, FeedRefusal, Table};
 
 /// Answers lines one after the other, each query at the last version. What is pending stays apart from
 /// that version. A publish takes the pending commands into it one by one, or makes it a copy of what is
-/// pending where its commands are as many as its rows were, so that it never costs more than the changes
-/// that it publishes.
+/// pending where its commands are as many as all that were published before, so that no publish costs more
+/// than its commands.
 #[derive(Drop)]
 pub(crate) struct Serial {
     alloc: Global,
@@ -41,6 +41,8 @@ pub(crate) struct Serial {
     batch: Vec<PackedCommand>,
     published: Table,
     publishes: u64,
+    // How many commands were published.
+    taken: u64,
     stacks: Stacks,
 }
 
@@ -85,6 +87,7 @@ impl Serial {
             batch: Vec::new(alloc),
             published: Table::new(alloc, schema, limits),
             publishes: 0,
+            taken: 0,
             stacks,
         })
     }
@@ -196,23 +199,21 @@ impl Serial {
         Ok(self.publishes)
     }
 
-    // The last version has the pending commands too. It is copied from what is pending where those are
-    // many.
+    // The last version has the pending commands too. It is copied from what is pending where these are
+    // many: a table has no more rows, gone or not, than a few for each command.
     fn publish_pending(&mut self) -> Result<(), AllocError>
         ensures ok { OnOk result (IsPending self.old
             → self.new ≡ record self.old { published = after_commands self.old.terms.schema self.old.published self.old.batch }) }
         ensures kept { (self.new.terms ≡ self.old.terms) × (self.new.publishes ≡ self.old.publishes) }
     {
-        let rows = self
-            .published
-            .entities()
-            .saturating_add(self.published.edges());
-        if self.batch.len() as u64 >= rows {
-            self.published = self.pending.copy()?;
-            Ok(())
+        let count = self.batch.len() as u64;
+        if count < self.taken {
+            put_all(&mut self.published, self.batch.as_slice())?;
         } else {
-            put_all(&mut self.published, self.batch.as_slice())
+            self.published = self.pending.copy()?;
         }
+        self.taken = self.taken.saturating_add(count);
+        Ok(())
     }
 
     // A query is answered over the last version.
