@@ -195,6 +195,7 @@ impl Serial {
         self.publishes += 1;
         self.published.end(self.publishes);
         self.pending.end(self.publishes);
+        self.taken = self.taken.saturating_add(self.batch.len() as u64);
         self.batch.clear();
         Ok(self.publishes)
     }
@@ -206,14 +207,12 @@ impl Serial {
             → self.new ≡ record self.old { published = after_commands self.old.terms.schema self.old.published self.old.batch }) }
         ensures kept { (self.new.terms ≡ self.old.terms) × (self.new.publishes ≡ self.old.publishes) }
     {
-        let count = self.batch.len() as u64;
-        if count < self.taken {
-            put_all(&mut self.published, self.batch.as_slice())?;
+        if (self.batch.len() as u64) < self.taken {
+            put_all(&mut self.published, self.batch.as_slice())
         } else {
             self.published = self.pending.copy()?;
+            Ok(())
         }
-        self.taken = self.taken.saturating_add(count);
-        Ok(())
     }
 
     // A query is answered over the last version.

@@ -9,12 +9,12 @@ use Rattle.unicorn_round.proofs.Results.{if_ok, on_ok}
 use Rattle.unicorn_round.proofs.tidy.end_round.Goals as goal
 
 pub tidy_stacks-requires-clause-compactor : goal.tidy_stacks-requires-clause-compactor
-tidy_stacks-requires-clause-compactor g c =
+tidy_stacks-requires-clause-compactor g c κs within =
     let due = due_are (settings_of c.args.catalogue.now).schema c.args.stacks.now c.cover_all.new.self c.as_slice.result.now c.as_slice-2.result.now c.requires.stacks c.cover_all.ensures (is_due c.publishes-made.result) c.in_ok-due.due.items c.as_slice-3.result.now c.as_slice-3.ensures.value (c.in_ok-due.ensures {u = tt}) in
     record { of = c.requires.compactor.of; few = omega (arith, c.requires.compactor.few, due.few) }
 
 pub tidy_stacks-requires-clause-stacks : goal.tidy_stacks-requires-clause-stacks
-tidy_stacks-requires-clause-stacks g c =
+tidy_stacks-requires-clause-stacks g c κs within =
     let due = due_are (settings_of c.args.catalogue.now).schema c.args.stacks.now c.cover_all.new.self c.as_slice.result.now c.as_slice-2.result.now c.requires.stacks c.cover_all.ensures (is_due c.publishes-made.result) c.in_ok-due.due.items c.as_slice-3.result.now c.as_slice-3.ensures.value (c.in_ok-due.ensures {u = tt}) in due.each
 
 pub returns-in_err-missed-clause-compactor : goal.returns-in_err-missed-clause-compactor

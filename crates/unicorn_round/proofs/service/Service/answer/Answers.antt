@@ -43,13 +43,13 @@ run_round-requires-clause-sessions g c κs within =
     (may_ask catalogue c.args.items parts may.lines c.args.self.sessions.items c.within_has_shares.ensures ready.sessions ready.count may.few may.fit parted)
 
 pub end_round-requires-clause-few : goal.end_round-requires-clause-few
-end_round-requires-clause-few g c =
+end_round-requires-clause-few g c κs within =
     let catalogue = c.args.self.catalogue in let ready = c.requires.may.ready in
     let few = few_publishes catalogue c.args.items c.in_ok-parts.parts c.requires.may.lines c.args.self.feeder c.run_round.new.feeder c.in_ok-answers.answers.fed ready.publishes c.in_ok-answers.ensures.answered.fed in
     omega (arith, few, ready.standard.publishes)
 
 pub end_round-requires-clause-compactor : goal.end_round-requires-clause-compactor
-end_round-requires-clause-compactor g c =
+end_round-requires-clause-compactor g c κs within =
     let catalogue = c.args.self.catalogue in let may = c.requires.may in let ready = may.ready in let parts = c.in_ok-parts.parts in
     let long : vec_len c.args.self.sessions ≡ length c.args.self.sessions.items = search rules in
     let parted : IsParted (terms_of catalogue).limits.sessions c.args.items parts = subst (λ n. IsParted n c.args.items parts) (c.len.ensures ∙ long ∙ ready.count) (c.in_ok-parts.ensures {u = tt}) in
