@@ -5,7 +5,7 @@ use Rattle.std.proofs.lemmas.Map.Lookups.{exact_unsigned}
 use Rattle.uni_base.specs.EdgeOrder.{key_cmp, key_cmp-total}
 use Rattle.uni_base.specs.RankOrder.{doc_cmp}
 use Rattle.uni_base.proofs.RankedLemmas.{doc_total, exact_key}
-use Rattle.posting_lists.proofs.Keys.{same_key}
+use Rattle.uni_base.specs.KeyHash.{exact_keys}
 use Rattle.layer_base.specs.Layers.{TellsApart}
 use Rattle.layer_base.proofs.Sorted.{both_equal}
 use Rattle.layer_stack.specs.declared.place.TermKey.{TermKey}
@@ -22,7 +22,7 @@ pub term_apart : TellsApart term_cmp
 term_apart a b e =
     let both = both_equal (nat_cmp a.type_no b.type_no) (key_cmp a.key b.key) e in
     let types = exact_unsigned a.type_no b.type_no both.0 in
-    let keys = same_key a.key b.key both.1 in
+    let keys = exact_keys a.key b.key both.1 in
     λ i. record { type_no = types i; key = keys i }
 
 pub place_apart : TellsApart place_cmp

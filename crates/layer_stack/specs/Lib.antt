@@ -1,4 +1,3 @@
-pub mod Hashes
 pub mod Places
 pub mod Postings
 pub mod Runs

@@ -1,10 +1,10 @@
-ghost use Rattle.std.specs.Prelude.{◌≡◌, ◌<◌, [], length, OnErr, IfOk, IfSome, Some, slice_get};
+ghost use Rattle.std.specs.Prelude.{◌≡◌, ◌<◌, [], length, OnErr, IfOk, Some, slice_get};
 ghost use Rattle.posting_lists.specs.Audiences.{Extends, audience_of, IsStored};
 
+use indexmap::IndexSet;
 use std::alloc::{AllocError, Global};
-use std::collections::BTreeMap;
 use std::marker::Model;
-use uni_base::{Audience, Key, Rows};
+use uni_base::{Audience, Key};
 
 /// A circle: a type and a key, whose edges lead to its members.
 pub(crate) type Circle = (u16, Key);
@@ -17,12 +17,10 @@ pub(crate) enum StoredAudience {
     Circle(u32),
 }
 
-/// The circles that occur in a list, each with a number.
+/// The circles that occur in a list, each with the number of its place.
 #[derive(Drop)]
 pub(crate) struct CircleTable {
-    circles: Rows<Circle>,
-    // Where a circle may stand among them. A number counts only if its circle is the one sought.
-    numbers: BTreeMap<Circle, u32>,
+    circles: IndexSet<Circle>,
 }
 
 impl Model for CircleTable {
@@ -31,7 +29,7 @@ impl Model for CircleTable {
 
     ghost Value = { List (ℕ × Key) };
 
-    ghost view = { λ c. c.circles };
+    ghost view = { λ c. c.circles.keys };
 }
 
 impl CircleTable {
@@ -39,8 +37,7 @@ impl CircleTable {
         ensures { result ≡ [] }
     {
         CircleTable {
-            circles: Rows::new(alloc),
-            numbers: BTreeMap::new(alloc),
+            circles: IndexSet::new(alloc),
         }
     }
 
@@ -48,7 +45,7 @@ impl CircleTable {
         requires { number < length self.now }
         ensures { slice_get self.now number ≡ Some result }
     {
-        self.circles.as_slice()[number as usize]
+        *self.circles.get_index(number as usize).unwrap()
     }
 
     // An audience as it is stored over the table, which gains its circle where that is new.
@@ -74,25 +71,10 @@ impl CircleTable {
         ensures extends { Extends self.old self.new }
         ensures err { OnErr result (self.new ≡ self.old) }
     {
-        if let Some(number) = self.known(circle) {
-            return Ok(number);
-        }
-        let number = self.circles.len();
-        if number >= u32::MAX as usize {
+        if self.circles.len() >= u32::MAX as usize {
             return Err(AllocError);
         }
-        self.numbers.insert(*circle, number as u32)?;
-        self.circles.push(*circle)?;
+        let (number, _is_new) = self.circles.insert_full(*circle)?;
         Ok(number as u32)
-    }
-
-    fn known(&self, circle: &Circle) -> Option<u32>
-        ensures { IfSome result (λ n. slice_get self.now n ≡ Some circle.now) }
-    {
-        let number = *self.numbers.get(circle)?;
-        match self.circles.get(number as usize) {
-            Some(found) if *found == *circle => Some(number),
-            _ => None,
-        }
     }
 }

@@ -18,7 +18,7 @@ use Rattle.uni_table.specs.Contents.{Contents, edge_at}
 use Rattle.uni_table.specs.TableState.{IsKept}
 use Rattle.uni_table.specs.declared.change.EdgeChange.{EdgeChange}
 use Rattle.uni_table.specs.declared.command.EdgeRow.{EdgeRow}
-use Rattle.posting_lists.proofs.Keys.{same_key}
+use Rattle.uni_base.specs.KeyHash.{exact_keys}
 use Rattle.layer_base.specs.Layers.{layer_over as table_over}
 use Rattle.layer_base.specs.Lookups.{either}
 use Rattle.layer_base.proofs.Tables.{get-layer_over}
@@ -50,7 +50,7 @@ exact_audience (Circle m j) Public t = cc
 exact_audience (Circle m j) Only t = cc
 exact_audience (Circle m j) (Circle n k) t =
     let parts = and_parts (m == n) (eq_by_cmp key_cmp j k) t in
-    λ i. Circle (same_number m n parts.0 i) (same_key j k (equal_of (key_cmp j k) parts.1) i)
+    λ i. Circle (same_number m n parts.0 i) (exact_keys j k (equal_of (key_cmp j k) parts.1) i)
 
 pub audience_itself : (x : Audience) → same_audience x x ≡ true
 audience_itself Public = refl

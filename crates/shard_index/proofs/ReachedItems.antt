@@ -30,7 +30,7 @@ use Rattle.uni_table.specs.Ranked.{held_at, reached_of}
 use Rattle.uni_table.specs.TableState.{IsKept}
 use Rattle.uni_table.proofs.Exact.{reached_is_exact}
 use Rattle.uni_table.proofs.Listed.{none_in_nil, first_or_later}
-use Rattle.posting_lists.proofs.Keys.{same_key}
+use Rattle.uni_base.specs.KeyHash.{exact_keys}
 use Rattle.layer_base.specs.Layers.{from_log}
 use Rattle.layer_base.proofs.Sorted.{both as both_hold, lt_from}
 use Rattle.shard_index.specs.ChangedRows.{target_row, row_item}
@@ -70,7 +70,7 @@ module _ (number : ℕ) (key : Key) where
   pub named : (edge : EdgeRef) → starts_at number key edge ≡ true → edge_to number key edge.target ≡ edge
   named edge t =
       let parts = and_parts (number == edge.type_no) (is_eq (key_cmp key edge.key)) t in
-      λ i. record { type_no = same_number number edge.type_no parts.0 i; key = same_key key edge.key (equal_of (key_cmp key edge.key) parts.1) i; target = edge.target }
+      λ i. record { type_no = same_number number edge.type_no parts.0 i; key = exact_keys key edge.key (equal_of (key_cmp key edge.key) parts.1) i; target = edge.target }
 
   itself_starts : (target : ℕ) → starts_at number key (edge_to number key target) ≡ true
   itself_starts target = λ i. number_itself number i && is_eq (tied_itself key_cmp-total key i)

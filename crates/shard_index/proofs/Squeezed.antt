@@ -9,7 +9,7 @@ use Rattle.std.specs.Ordering.{nat_cmp, ordering_then, ordering_reverse, is_eq}
 use Rattle.uni_base.specs.declared.edge.Held.{Held}
 use Rattle.uni_base.specs.declared.edge.Key.{Key}
 use Rattle.uni_base.specs.EdgeOrder.{edge_cmp, key_cmp, key_cmp-total}
-use Rattle.posting_lists.proofs.Keys.{same_key}
+use Rattle.uni_base.specs.KeyHash.{exact_keys}
 use Rattle.shard_index.specs.Begun.{starts_as}
 use Rattle.shard_index.proofs.LoggedMaps.{equal_of}
 
@@ -27,7 +27,7 @@ alike_from x y same = by (x.edge.type_no == y.edge.type_no) refl same
     by : (t : Bool) → (x.edge.type_no == y.edge.type_no) ≡ t → (t && is_eq (key_cmp x.edge.key y.edge.key)) ≡ true → Alike x y
     by true at rest =
         let types : x.edge.type_no ≡ y.edge.type_no = grind (arith, nat_tests) in
-        record { types = types; keys = same_key x.edge.key y.edge.key (equal_of (key_cmp x.edge.key y.edge.key) rest) }
+        record { types = types; keys = exact_keys x.edge.key y.edge.key (equal_of (key_cmp x.edge.key y.edge.key) rest) }
     by false at rest = cc
 
 pub number_itself : (n : ℕ) → (n == n) ≡ true
@@ -74,4 +74,4 @@ squeezed x y z low high alike =
     let k1 = first_less (key_cmp x.edge.key y.edge.key) (nat_cmp x.edge.target y.edge.target) (then_less (nat_cmp x.edge.type_no y.edge.type_no) (ordering_then (key_cmp x.edge.key y.edge.key) (nat_cmp x.edge.target y.edge.target)) up low) in
     let k2 = first_less (key_cmp y.edge.key z.edge.key) (nat_cmp y.edge.target z.edge.target) (then_less (nat_cmp y.edge.type_no z.edge.type_no) (ordering_then (key_cmp y.edge.key z.edge.key) (nat_cmp y.edge.target z.edge.target)) down high) in
     let key_back : NotGreater (key_cmp y.edge.key x.edge.key) = subst (λ (k : Key). NotGreater (key_cmp y.edge.key k)) (sym alike.keys) k2 in
-    record { types = exact_unsigned x.edge.type_no y.edge.type_no up; keys = same_key x.edge.key y.edge.key (level key_cmp-total x.edge.key y.edge.key k1 key_back) }
+    record { types = exact_unsigned x.edge.type_no y.edge.type_no up; keys = exact_keys x.edge.key y.edge.key (level key_cmp-total x.edge.key y.edge.key k1 key_back) }

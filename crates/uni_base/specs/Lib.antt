@@ -1,6 +1,7 @@
 pub mod Cursors
 pub mod EdgeOrder
 pub mod Fields
+pub mod KeyHash
 pub mod KeySets
 pub mod RankOrder
 pub mod WalkLaws

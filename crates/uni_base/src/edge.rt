@@ -2,9 +2,11 @@ ghost use Rattle.std.specs.Prelude.{refl};
 ghost use Rattle.std.specs.Cmp.{eq_by_cmp_equiv, partial_equiv_from_equiv, partial_order_from_agreeing_total};
 ghost use Rattle.std.specs.Ordering.{as_partial_cmp, eq_by_cmp};
 ghost use Rattle.uni_base.specs.EdgeOrder.{key_cmp, key_cmp-total};
+ghost use Rattle.uni_base.specs.KeyHash.{key_alike, key_writes};
 
 use crate::{EntityId, Word};
 use std::cmp::Ordering;
+use std::hash::{Hash, Hasher};
 
 /// Where an edge starts: at an entity or at a word. Ids come before words.
 #[derive(Clone, Copy, Debug)]
@@ -53,6 +55,20 @@ impl PartialOrd for Key {
 
     fn partial_cmp(&self, other: &Key) -> Option<Ordering> {
         Some(self.cmp(other))
+    }
+}
+
+/// An id by its number, and a word by its bytes.
+impl Hash for Key {
+    ghost hash_input = { key_writes };
+
+    ghost respects_eq = { key_alike };
+
+    fn hash<H: Hasher>(&self, state: &mut H) {
+        match self {
+            Key::Id(id) => id.hash(state),
+            Key::Word(word) => word.hash(state),
+        }
     }
 }
 

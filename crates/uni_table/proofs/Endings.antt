@@ -23,7 +23,7 @@ use Rattle.uni_table.proofs.Additions.{either-apart, filter-same, filter-none}
 use Rattle.uni_table.proofs.Compared.{is_eq-then, same_number, equal_from}
 use Rattle.uni_table.proofs.Entries.{sorted-filter}
 use Rattle.uni_table.proofs.InOrder.{same_sets}
-use Rattle.uni_table.proofs.Keys.{exact_edges}
+use Rattle.uni_table.specs.GraphKeys.{exact_edges}
 use Rattle.uni_table.proofs.Kept.{edge_total}
 use Rattle.uni_table.proofs.Placed.{sorted_nil, sorted_cons, all_wider}
 

@@ -21,7 +21,7 @@ use Rattle.uni_base.specs.declared.edge.Held.{Held}
 use Rattle.uni_base.specs.EdgeOrder.{edge_cmp}
 use Rattle.uni_table.specs.Lists.{held_of}
 use Rattle.uni_table.specs.declared.command.EdgeRow.{EdgeRow}
-use Rattle.uni_table.proofs.Keys.{exact_edges}
+use Rattle.uni_table.specs.GraphKeys.{exact_edges}
 use Rattle.uni_table.proofs.Kept.{edge_total}
 use Rattle.uni_table.proofs.Placed.{sorted_apart}
 

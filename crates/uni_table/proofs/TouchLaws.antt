@@ -22,7 +22,7 @@ use Rattle.uni_table.proofs.Compared.{equal_from}
 use Rattle.uni_table.proofs.Entries.{sorted-filter}
 use Rattle.uni_table.proofs.Filters.{map-filter}
 use Rattle.uni_table.proofs.InOrder.{keys_are}
-use Rattle.uni_table.proofs.Keys.{exact_edges}
+use Rattle.uni_table.specs.GraphKeys.{exact_edges}
 use Rattle.uni_table.proofs.Kept.{edge_total}
 use Rattle.uni_table.proofs.Listed.{GivenBy, given_by, is_given}
 

@@ -1,39 +1,20 @@
--- Keys and edges that are compared as equal are the same, and what of a type and key is hashed.
-use Rattle.std.specs.Prelude.{ℕ, ◌≡◌, ◌==◌, ◌&&◌, Bool, true, false, List, ◌++◌, refl}
+-- Sources and edges that are compared as equal are the same.
+use Rattle.std.specs.Prelude.{◌≡◌, ◌==◌, ◌&&◌, Bool, true, false, refl}
 use Rattle.std.specs.declared.cmp.Ordering.{Ordering}
 use Rattle.std.specs.declared.cmp.Ordering.TheVariants.{Less, Equal, Greater}
 use Rattle.std.specs.Cmp.{IsTotalOrder}
-use Rattle.std.specs.Hash as fed
 use Rattle.std.specs.Ordering.{nat_cmp, ordering_then, is_eq}
-use Rattle.std.proofs.Common.{ap}
 use Rattle.std.proofs.lemmas.Bool.Decides.{nat_tests}
 use Rattle.std.proofs.Common.{arith}
 use Rattle.std.proofs.lemmas.Cmp.{on_total, then_total, nat_cmp_total}
-use Rattle.std.proofs.lemmas.Map.Lookups.{CmpEqualImpliesEq, exact_unsigned, exact_bytes}
-use Rattle.uni_base.specs.declared.edge.Key.{Key}
-use Rattle.uni_base.specs.declared.edge.Key.TheVariants.{Id, Word}
+use Rattle.std.proofs.lemmas.Map.Lookups.{CmpEqualImpliesEq, exact_unsigned}
 use Rattle.uni_base.specs.EdgeOrder.{edge_cmp, key_cmp, key_cmp-total}
+use Rattle.uni_base.specs.KeyHash.{exact_keys}
 use Rattle.uni_table.specs.declared.graph.numbers.Source.{Source}
-
--- what a hasher is given of a key
-abbrev pub key_input : Key → List (List ℕ)
-key_input (Id id) = fed.u64 id
-key_input (Word text) = fed.slice fed.u8 text
-
--- and of a type and key
-abbrev pub source_input : Source → List (List ℕ)
-source_input source = fed.u16 source.type_no ++ key_input source.key
 
 -- whether two are the same type and key
 abbrev pub source_eq : Source → Source → Bool
 source_eq a b = a.type_no == b.type_no && is_eq (key_cmp a.key b.key)
-
--- keys that are not told apart are the same
-pub exact_keys : CmpEqualImpliesEq key_cmp
-exact_keys (Id a) (Id b) same = ap Id (exact_unsigned a b same)
-exact_keys (Id a) (Word v) same = cc
-exact_keys (Word u) (Id b) same = cc
-exact_keys (Word u) (Word v) same = ap Word (exact_bytes u v same)
 
 is_equal : (o : Ordering) → is_eq o ≡ true → o ≡ Equal
 is_equal Less e = cc
@@ -49,10 +30,6 @@ exact_sources a b same = by (a.type_no == b.type_no) refl same
         let keys : a.key ≡ b.key = exact_keys a.key b.key (is_equal (key_cmp a.key b.key) rest) in
         λ j. record { type_no = types j; key = keys j }
     by false at rest = cc
-
--- so are they hashed alike
-pub source_alike : (a b : Source) → source_eq a b ≡ true → source_input a ≡ source_input b
-source_alike a b same = ap source_input (exact_sources a b same)
 
 -- the order of edges is total
 pub edge_total : IsTotalOrder edge_cmp

@@ -1,7 +1,7 @@
 //! The layers of a batch of a small table.
-use crate::{ShardIndex, batch_layers};
+use crate::{ShardIndex, ShardLayer, batch_layers};
 use feed_reader::{FeedLine, read_feed_line};
-use std::alloc::Global;
+use std::alloc::{AllocError, Global};
 use std::process::Abort;
 use std::sync::Arc;
 use std::test::Fail;
@@ -24,6 +24,15 @@ const BATCH: &[u8] =
 // The entries of the layers: none of even users; of odd ones a put and a removal of entities, the two
 // postings of user 5 deleted and put, and that of user 3 deleted; of photos a posting deleted, and a record.
 const ENTRIES: [u64; 3] = [0, 7, 2];
+
+// How many users more there are, all of them friends of user 1. The photo shows the last ones of them. So
+// more edges change than are made at a time, and those of the photo's record in two parts.
+const MANY: u64 = 1_000;
+
+const SHOWN: u64 = 60;
+
+// The entries of their layers: of either shard of users the put of each, and its posting; and a record.
+const MANY_ENTRIES: [u64; 3] = [1_000, 1_000, 1];
 
 fn schema(alloc: Global) -> Result<Schema, Fail> {
     let mut header = HeaderReader::new(alloc, Limits::standard());
@@ -61,19 +70,38 @@ fn published(rt: &impl Abort, alloc: Global) -> Result<Table, Fail> {
     Ok(table)
 }
 
+// Compares how many entries layers have.
+fn check_entries(rt: &impl Abort, layers: &[ShardLayer], entries: &[u64]) {
+    assert_eq!(rt; layers.len(), entries.len());
+    for (number, layer) in layers.iter().enumerate() {
+        assert!(rt;
+            entries.get(number) == Some(&layer.entries()),
+            "at {number}"
+        );
+    }
+}
+
 #[test]
 fn a_batch_has_a_layer_for_each_shard(rt: HostRuntime) -> Result<(), Fail> {
     let mut table = published(&rt, rt.alloc())?;
     put_all(&rt, &mut table, BATCH);
     let layers = batch_layers(rt.alloc(), &table)?;
-    assert_eq!(rt; layers.len(), 3);
-    for (number, layer) in layers.iter().enumerate() {
-        assert!(rt;
-            ENTRIES.get(number) == Some(&layer.entries()),
-            "at {number}"
-        );
-    }
+    check_entries(&rt, layers.as_slice(), &ENTRIES);
     Ok(())
+}
+
+// An index with the layer at a place over it, of those of a table's batch.
+fn with_layer(
+    alloc: Global,
+    table: &Table,
+    index: &ShardIndex,
+    place: usize,
+) -> Result<ShardIndex, Fail> {
+    let mut index = index.roomy(1)?;
+    let layers = batch_layers(alloc, table)?;
+    let layer = layers.get(place).ok_or("no layer")?;
+    index.push_layer_reserved(layer.share()?);
+    Ok(index)
 }
 
 // The rank of an entity in the second shard of users, after a batch.
@@ -82,11 +110,9 @@ fn rank_after(rt: &impl Abort, alloc: Global, id: &[u8]) -> Result<Option<Rank>,
     if table.schema().verticals() == 0 {
         return Err("no vertical")?;
     }
-    let mut index = ShardIndex::rebuild(alloc, &table, 0, 1)?.roomy(1)?;
+    let index = ShardIndex::rebuild(alloc, &table, 0, 1)?;
     put_all(rt, &mut table, BATCH);
-    let layers = batch_layers(alloc, &table)?;
-    let layer = layers.get(1).ok_or("no layer")?;
-    index.push_layer_reserved(layer.share()?);
+    let index = with_layer(alloc, &table, &index, 1)?;
     Ok(index.rank_of(read_id(id).ok_or("no id")?))
 }
 
@@ -95,5 +121,58 @@ fn a_layer_over_an_index(rt: HostRuntime) -> Result<(), Fail> {
     assert_eq!(rt; rank_after(&rt, rt.alloc(), b"5")?, Some(Rank(95)));
     assert_eq!(rt; rank_after(&rt, rt.alloc(), b"3")?, None);
     assert_eq!(rt; rank_after(&rt, rt.alloc(), b"1")?, Some(Rank(50)));
+    Ok(())
+}
+
+// Puts a user who is a friend of user 1.
+fn put_friend(
+    rt: &impl Abort,
+    alloc: Global,
+    table: &mut Table,
+    id: u64,
+) -> Result<(), AllocError> {
+    let lines = format!(in alloc; "entity user {id} 50|edge friend 1 {id} public")?;
+    put_all(rt, table, lines.as_bytes());
+    Ok(())
+}
+
+// Puts that the photo shows a user.
+fn put_shown(rt: &impl Abort, alloc: Global, table: &mut Table, id: u64) -> Result<(), AllocError> {
+    let line = format!(in alloc; "edge shows 102 {id} public")?;
+    put_all(rt, table, line.as_bytes());
+    Ok(())
+}
+
+// Puts many users.
+fn put_many(rt: &impl Abort, alloc: Global, table: &mut Table) -> Result<(), AllocError> {
+    for number in 0..MANY {
+        put_friend(rt, alloc, table, number + 1_000)?;
+    }
+    for number in 0..SHOWN {
+        put_shown(rt, alloc, table, number + 1_940)?;
+    }
+    Ok(())
+}
+
+// How many users the photo shows after many were put.
+fn shown_after(rt: &impl Abort, alloc: Global) -> Result<usize, Fail> {
+    let mut table = published(rt, alloc)?;
+    if table.schema().verticals() < 2 {
+        return Err("no photos")?;
+    }
+    let index = ShardIndex::rebuild(alloc, &table, 1, 0)?;
+    put_many(rt, alloc, &mut table)?;
+    let index = with_layer(alloc, &table, &index, 2)?;
+    let photo = read_id(b"102").ok_or("no id")?;
+    Ok(index.forward(3, photo).len())
+}
+
+#[test]
+fn more_changes_than_are_made_at_a_time(rt: HostRuntime) -> Result<(), Fail> {
+    let mut table = published(&rt, rt.alloc())?;
+    put_many(&rt, rt.alloc(), &mut table)?;
+    let layers = batch_layers(rt.alloc(), &table)?;
+    check_entries(&rt, layers.as_slice(), &MANY_ENTRIES);
+    assert_eq!(rt; shown_after(&rt, rt.alloc())?, 62);
     Ok(())
 }

@@ -1,32 +1,16 @@
 //! What the rows of a graph are made of: keys by number, and what stands at them.
 ghost use Rattle.std.specs.Prelude.{◌≡◌};
-ghost use Rattle.uni_table.specs.GraphKeys.{source_input, source_alike};
 ghost use Rattle.uni_table.specs.GraphChanges.{differs_from, is_changed, is_changed_entity, is_circle, is_only, is_public, end_before, rank_of, ranks_differ, ranks_of, state_before};
 ghost use Rattle.uni_table.specs.GraphRows.{entity_before, is_ended, is_live, is_same, is_same_entity, next_at, stood, stood_entity, written, written_entity};
 
 use crate::EntityRow;
-use std::hash::{Hash, Hasher};
 use uni_base::{Key, Rank};
 
 /// A type and a key: what edges start at.
-#[derive(Clone, Copy, Debug, PartialEq, Eq)]
+#[derive(Clone, Copy, Debug, PartialEq, Eq, Hash)]
 pub(crate) struct Source {
     pub type_no: u16,
     pub key: Key,
-}
-
-impl Hash for Source {
-    ghost hash_input = { source_input };
-
-    ghost respects_eq = { source_alike };
-
-    fn hash<H: Hasher>(&self, state: &mut H) {
-        self.type_no.hash(state);
-        match self.key {
-            Key::Id(id) => id.hash(state),
-            Key::Word(word) => word.hash(state),
-        }
-    }
 }
 
 /// An id that is or was an entity, or that an edge leads or led to.
