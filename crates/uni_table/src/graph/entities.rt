@@ -56,8 +56,8 @@ impl Rows {
         requires { IsRows self.now }
         ensures { result ≡ entity_at (contents_of self.now) id }
     {
-        match self.ids.get(&id) {
-            Some(node) => node.row,
+        match self.id_index(id) {
+            Some(number) => self.entity_at(number),
             None => None,
         }
     }

@@ -55,25 +55,6 @@ fn add_key<K: Eq + Hash + Copy, V: Drop>(
     Ok(index as u32)
 }
 
-// The index of a key, which is added with a value where it is new.
-fn index_of<K: Eq + Hash + Copy, V: Drop>(
-    map: &mut IndexMap<K, V>,
-    key: K,
-    value: V,
-) -> Result<u32, AllocError>
-    requires few { length map.old.entries < 2 ^ 32 }
-    requires unique { IsUnique K.eq map.old }
-    ensures grown { Grows map.old.entries map.new.entries key value }
-    ensures index { IfOk result (λ i. (k : K) × (slice_get (keys_of map.new.entries) i ≡ Some k) × (K.eq key k ≡ true)) }
-    ensures few { length map.new.entries < 2 ^ 32 }
-    ensures unique { IsUnique K.eq map.new }
-{
-    if let Some((known, _, _)) = map.get_full(&key) {
-        return Ok(known as u32);
-    }
-    add_key(map, key, value)
-}
-
 impl Rows {
     /// Nothing.
     pub fn new(alloc: Global) -> Rows
@@ -99,7 +80,10 @@ impl Rows {
         ensures quiet { IsQuiet self.old self.new }
         ensures number { IfOk result (λ n. slice_get (keys_of self.new.sources.entries) n ≡ Some (record { type_no = type_no; key = key })) }
     {
-        index_of(&mut self.sources, Source { type_no, key }, 0)
+        match self.source_index(type_no, &key) {
+            Some(number) => Ok(number as u32),
+            None => self.add_source(type_no, key),
+        }
     }
 
     /// The number of a type and key that is none of the sources, which is added.
@@ -119,13 +103,26 @@ impl Rows {
         ensures quiet { IsQuiet self.old self.new }
         ensures number { IfOk result (λ n. slice_get (keys_of self.new.ids.entries) n ≡ Some id) }
     {
+        match self.id_index(id) {
+            Some(number) => Ok(number as u32),
+            None => self.add_id(id),
+        }
+    }
+
+    // The number of an id that is none of the ids, which is added.
+    fn add_id(&mut self, id: EntityId) -> Result<u32, AllocError>
+        requires kept { IsRows self.old }
+        requires new { IsIndexOf nat_eq (keys_of self.old.ids.entries) id None }
+        ensures quiet { IsQuiet self.old self.new }
+        ensures number { IfOk result (λ n. slice_get (keys_of self.new.ids.entries) n ≡ Some id) }
+    {
         make_room(&mut self.touched_ids, self.ids.len())?;
         let node = Node {
             row: None,
             before: EntityBefore::Same,
             last_edge: 0,
         };
-        index_of(&mut self.ids, id, node)
+        add_key(&mut self.ids, id, node)
     }
 
     /// The state of an edge with an audience.
@@ -171,8 +168,20 @@ impl Rows {
         }
     }
 
-    /// The index of an id. None where it never was an entity, and no edge ever led there.
+    /// The index of an id. None where it never was an entity, and no edge ever led there. Where ids came
+    /// as 1, 2, 3 and so on, it is found without a hash.
     pub fn id_index(&self, id: EntityId) -> Option<usize>
+        ensures { IsIndexOf nat_eq (keys_of self.now.ids.entries) id result }
+    {
+        let in_turn = (id.get() - 1) as usize;
+        match self.ids.get_index(in_turn) {
+            Some((known, _)) if *known == id => Some(in_turn),
+            _ => self.hashed_index(id),
+        }
+    }
+
+    // The same, by a hash.
+    fn hashed_index(&self, id: EntityId) -> Option<usize>
         ensures { IsIndexOf nat_eq (keys_of self.now.ids.entries) id result }
     {
         match self.ids.get_full(&id) {
