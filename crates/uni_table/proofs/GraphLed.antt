@@ -1,16 +1,16 @@
 -- The edges that reach an id, as a walk comes by them.
-use Rattle.std.proofs.Common.{◌≡◌, ◌≤◌, ◌<◌, ◌+◌, ◌⊎◌, ◌==◌, ◌||◌, not, if◌then◌else◌, inl, inr, ⊎_elim, get_or, Option, [], ◌∷◌, ◌++◌, ℕ, suc, nat_lt, Bool, true, false, List, Some, None, refl, sym, ◌∙◌, ap, subst, length, take, slice_get, arith, true≢false}
+use Rattle.std.proofs.Common.{◌≡◌, ◌≤◌, ◌<◌, ◌⊎◌, ◌==◌, ◌||◌, not, if◌then◌else◌, inl, inr, ⊎_elim, Option, [], ◌++◌, ℕ, suc, nat_lt, Bool, true, false, List, Some, None, refl, sym, ◌∙◌, ap, length, take, slice_get, arith, true≢false}
 use Rattle.std.specs.Map.{keys_of}
 use Rattle.std.proofs.lemmas.Bool.Decides.{nat_tests}
-use Rattle.std.proofs.lemmas.List.{take_all, take_more}
-use Rattle.std.proofs.lemmas.List.Elements.{Contains-append_left, Contains-append_right, Contains-push_cases}
+use Rattle.std.proofs.lemmas.List.{take_all}
+use Rattle.std.proofs.lemmas.List.Elements.{Contains-append_left, Contains-append_right}
 use Rattle.std.specs.List.{Contains}
 use Rattle.std.specs.Option.{option_and_then, option_map_or}
 use Rattle.std.proofs.lemmas.Map.Entries.{length-keys_of}
 use Rattle.std.proofs.lemmas.Option.{slice_get_within}
 use Rattle.chained_rows.specs.Chains.{last_no}
 use Rattle.uni_base.specs.declared.entity.Rank.{Rank}
-use Rattle.uni_table.specs.GraphChanges.{IsLed, AddsLedBy, AddsMoved, AreAffected, moved_at, untouched_at, ranks_differ, ranks_of, no_ranks, rank_of, rank_differs, is_affected, is_changed, is_other}
+use Rattle.uni_table.specs.GraphChanges.{IsLed, AddsMoved, AreAffected, moved_at, untouched_at, ranks_differ, ranks_of, no_ranks, rank_of, rank_differs, is_affected, is_changed, is_other}
 use Rattle.uni_table.specs.GraphRows.{IsRows, entity_then_of, is_live, is_same, is_same_entity, has_at, next_at, last_at}
 use Rattle.uni_table.specs.declared.command.EntityRow.{EntityRow}
 use Rattle.uni_table.specs.declared.graph.numbers.Before.{Before}
@@ -52,22 +52,6 @@ module _ (rows : Rows) (kept : IsRows rows) (q : ℕ) where
         by : (b : Bool) → nat_lt i place ≡ b → (i ≡ place) ⊎ (i < place)
         by true test = inr (grind (arith, nat_tests))
         by false test = inl (let back : place ≤ i = grind (arith, nat_tests) in omega (arith, back, passed))
-
--- no place is added for no ids
-pub moved-none : (rows : Rows) (old : List ℕ) → AddsMoved rows [] old old
-moved-none rows old place (inl there) = there
-moved-none rows old place (inr led) = absurd (omega (arith, led.1.1))
-
--- those for one id more
-pub moved-more : (rows : Rows) (xs : List ℕ) (i x : ℕ) → i < length xs → x ≡ get_or xs i x → (old before after : List ℕ) → AddsMoved rows (take i xs) old before → AddsLedBy rows x before after → AddsMoved rows (take (i + 1) xs) old after
-moved-more rows xs i x below is old before after so_far adds place (inl there) = adds place (inl (so_far place (inl there)))
-moved-more rows xs i x below is old before after so_far adds place (inr led) =
-    ⊎_elim (λ earlier. adds place (inl (so_far place (inr (led.0, earlier, led.2, led.3)))))
-    (λ here. adds place (inr (subst (λ n. moved_at rows n ≡ true) (sym here) led.2, subst (λ n. IsLed rows n place) (sym here) led.3)))
-    (Contains-push_cases (take i xs) x led.0 (subst (λ ys. Contains ys led.0) more led.1))
-  where
-    more : take (i + 1) xs ≡ take i xs ++ x ∷ []
-    more = take_more xs i x below ∙ ap (λ y. take i xs ++ y ∷ []) (sym is)
 
 -- an edge that differs was touched
 other-touched : (b : Before) (state : SlotState) (end : ℕ) → is_other b state end ≡ true → is_same b ≡ false

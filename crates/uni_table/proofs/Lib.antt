@@ -39,6 +39,7 @@ mod RankedIn
 mod Reached
 mod ShardEdges
 pub mod Sharded
+mod SideBySide
 mod SourceOrder
 mod Starts
 pub mod Steps

@@ -1,11 +1,11 @@
 -- Which rows differ from what they were at the last publish.
-use Rattle.std.specs.Prelude.{ℕ, ◌≡◌, ◌⊎◌, Bool, true, false, not, ◌==◌, ◌||◌, List, Option, None, Some, is_some, slice_get, if◌then◌else◌}
+use Rattle.std.specs.Prelude.{ℕ, zero, suc, ◌≡◌, ◌⊎◌, Bool, true, false, not, ◌==◌, ◌||◌, List, Option, None, Some, is_some, slice_get, if◌then◌else◌}
 use Rattle.std.specs.List.{Contains}
 use Rattle.std.specs.Map.{keys_of}
 use Rattle.std.specs.Option.{option_and_then, option_map, option_map_or}
 use Rattle.uni_base.specs.declared.edge.EdgeRef.{EdgeRef}
 use Rattle.uni_base.specs.declared.entity.Rank.{Rank}
-use Rattle.uni_table.specs.GraphRows.{edge_named, row_of, row_before, entity_before, has_at, is_live, is_same}
+use Rattle.uni_table.specs.GraphRows.{edge_named, row_of, row_before, entity_before, has_at, is_live, is_same, last_at}
 use Rattle.uni_table.specs.declared.change.EntityChange.{EntityChange}
 use Rattle.uni_table.specs.declared.change.EdgeChange.{EdgeChange}
 use Rattle.uni_table.specs.declared.command.EntityRow.{EntityRow}
@@ -146,19 +146,25 @@ abbrev pub IsLed : Rows → ℕ → ℕ → Type 0
 IsLed rows number place =
     (e : EdgeNo × Slot) × (slice_get rows.edges.entries place ≡ Some e) × (has_at Target number e.0 ≡ true) × (is_same e.1.before ≡ true)
 
--- the places of a list are in another, with those of edges that reach the id of a number
-abbrev pub AddsLed : Rows → ℕ → List ℕ → List ℕ → Type 0
-AddsLed rows number old new = (place : ℕ) → Contains old place ⊎ IsLed rows number place → Contains new place
+-- the place of a number: they count from 1, and 0 is none
+abbrev pub place_of : ℕ → Option ℕ
+place_of zero = None
+place_of (suc place) = Some place
 
--- or of such edges if the id has another rank
-abbrev pub AddsLedBy : Rows → ℕ → List ℕ → List ℕ → Type 0
-AddsLedBy rows number old new = (place : ℕ) → Contains old place ⊎ ((moved_at rows number ≡ true) × IsLed rows number place) → Contains new place
+-- the place of the last edge that reaches the id of a number, if it has another rank
+abbrev pub moved_last_at : Rows → ℕ → Option ℕ
+moved_last_at rows number = if moved_at rows number then place_of (last_at Target rows number) else None
 
--- or those that reach ids of a list with other ranks
+-- the place of the edge before the one at a place among those with its target
+abbrev pub before_at : Rows → ℕ → Option ℕ
+before_at rows place = option_and_then (λ e. place_of e.1.next_into) (slice_get rows.edges.entries place)
+
+-- the place of an edge that reaches an id of a list with another rank, and that the batch has not touched
 abbrev pub IsLedByMoved : Rows → List ℕ → ℕ → Type 0
 IsLedByMoved rows numbers place =
     (number : ℕ) × Contains numbers number × (moved_at rows number ≡ true) × IsLed rows number place
 
+-- the places of a list are in another, with those of such edges
 abbrev pub AddsMoved : Rows → List ℕ → List ℕ → List ℕ → Type 0
 AddsMoved rows numbers old new = (place : ℕ) → Contains old place ⊎ IsLedByMoved rows numbers place → Contains new place
 

@@ -6,10 +6,11 @@ use Rattle.std.specs.Option.{option_and_then, option_map, option_map_or}
 use Rattle.uni_base.specs.declared.edge.EdgeRef.{EdgeRef}
 use Rattle.uni_base.specs.declared.edge.Key.{Key}
 use Rattle.uni_base.specs.declared.edge.Key.TheVariants.{Id, Word}
-use Rattle.uni_table.specs.GraphChanges.{change_of, is_affected}
+use Rattle.uni_table.specs.GraphChanges.{change_of, is_affected, no_ranks, ranks_at}
 use Rattle.uni_table.specs.GraphRows.{edge_named, IsRows}
 use Rattle.uni_table.specs.declared.change.EdgeChange.{EdgeChange}
 use Rattle.uni_table.specs.declared.graph.numbers.EdgeNo.{EdgeNo}
+use Rattle.uni_table.specs.declared.graph.numbers.Ranks.{Ranks}
 use Rattle.uni_table.specs.declared.graph.numbers.Slot.{Slot}
 use Rattle.uni_table.specs.declared.graph.numbers.Source.{Source}
 use Rattle.uni_table.specs.declared.graph.order.PlacedEdge.{PlacedEdge}
@@ -57,3 +58,7 @@ pub record HaveChanges (rows : Rows) (edges : List PlacedEdge) : Type 0 where
 -- what stands there
 abbrev pub standing_at : Rows → PlacedEdge → Option (EdgeNo × Slot)
 standing_at rows edge = slice_get rows.edges.entries edge.place
+
+-- the ranks of the target of what stands there
+abbrev pub ranks_standing : Rows → Option (EdgeNo × Slot) → Ranks
+ranks_standing rows standing = option_map_or (λ e. ranks_at rows e.0.target) standing no_ranks

@@ -3,11 +3,11 @@ ghost use Rattle.std.specs.Prelude.{◌≡◌, ◌≤◌, ◌-◌, ◌++◌, len
 ghost use Rattle.std.specs.List.{filter_map};
 ghost use Rattle.std.specs.Option.{option_map, option_to_list};
 ghost use Rattle.uni_table.specs.Changes.{AreEdgeChanges};
-ghost use Rattle.uni_table.specs.GraphOrder.{placed_change, standing_at};
+ghost use Rattle.uni_table.specs.GraphOrder.{placed_change, ranks_standing, standing_at};
 ghost use Rattle.uni_table.specs.GraphRows.{contents_of, published_of, IsRows};
 
 use super::changes::push;
-use super::numbers::{EdgeNo, Slot};
+use super::numbers::{EdgeNo, Ranks, Slot};
 use super::order::PlacedEdge;
 use super::rows::Rows;
 use crate::{EdgeChange, EdgeChanges, EdgeRow};
@@ -45,17 +45,22 @@ impl<'a> ChangedEdges<'a> {
         self.edges.len()
     }
 
-    /// The changes from a place up to another. To read what stands at their places in a loop of its own
-    /// costs less than one by one, since the places lie in no order; so parts of some hundred are best.
+    /// The changes from a place up to another. To read what stands at their places, and then the ranks of
+    /// their targets, each in a loop of its own costs less than one by one, since these rows lie in no order;
+    /// so parts of some hundred are best.
     pub fn part(&self, from: usize, to: usize) -> Result<EdgeChanges, AllocError>
         requires { (from ≤ to) × (to ≤ length self.now) }
         ensures { IfOk result (λ changes. changes ≡ take (to - from) (drop from self.now)) }
     {
         let edges = &self.edges[from..to];
         let standing = self.rows.standing(self.alloc, edges)?;
-        let changes = self
-            .rows
-            .edge_changes_at(self.alloc, edges, standing.as_slice())?;
+        let ranks = self.rows.target_ranks(self.alloc, standing.as_slice())?;
+        let changes = self.rows.edge_changes_at(
+            self.alloc,
+            edges,
+            standing.as_slice(),
+            ranks.as_slice(),
+        )?;
         Ok(EdgeChanges::from_vec(changes))
     }
 }
@@ -71,21 +76,50 @@ fn row_with(audience: Option<Audience>, end: u64) -> Option<EdgeRow>
 }
 
 impl Rows {
-    // Adds the change of an edge to a list, by what stands at its place.
+    // The ranks of the target of what stands at a place.
+    fn ranks_standing(&self, standing: &Option<(EdgeNo, Slot)>) -> Ranks
+        ensures { result ≡ ranks_standing self.now standing.now }
+    {
+        match standing {
+            Some((number, _)) => self.ranks_at(number.target as usize),
+            None => Ranks {
+                before: None,
+                after: None,
+            },
+        }
+    }
+
+    // The ranks of the targets of what stands at places, in their order.
+    fn target_ranks(
+        &self,
+        alloc: Global,
+        standing: &[Option<(EdgeNo, Slot)>],
+    ) -> Result<Vec<Ranks>, AllocError>
+        ensures { IfOk result (λ ranks. ranks.items ≡ map (ranks_standing self.now) standing.now) }
+    {
+        let mut ranks = Vec::with_capacity(alloc, standing.len())?;
+        for edge in standing {
+            ranks.push(self.ranks_standing(edge))?;
+        }
+        Ok(ranks)
+    }
+
+    // Adds the change of an edge to a list, by what stands at its place, and the ranks of its target.
     fn add_edge_change(
         &self,
         edge: &PlacedEdge,
         standing: &Option<(EdgeNo, Slot)>,
+        ranks: Ranks,
         changes: &mut Vec<EdgeChange>,
     ) -> Result<(), AllocError>
         requires kept { IsRows self.now }
         requires standing { standing.now ≡ standing_at self.now edge.now }
+        requires ranks { ranks ≡ ranks_standing self.now standing.now }
         ensures { OnOk result (changes.new.items ≡ changes.old.items ++ option_to_list (placed_change self.now edge.now)) }
     {
-        let Some((number, slot)) = standing else {
+        let Some((_, slot)) = standing else {
             return Ok(());
         };
-        let ranks = self.ranks_at(number.target as usize);
         let named = self.edge_of(edge);
         let key = named.key;
         let edge = EdgeRef {
@@ -106,20 +140,22 @@ impl Rows {
         push(changes, change)
     }
 
-    // The changes of edges in their order, by what stands at their places.
+    // The changes of edges in their order, by what stands at their places, and the ranks of their targets.
     fn edge_changes_at(
         &self,
         alloc: Global,
         edges: &[PlacedEdge],
         standing: &[Option<(EdgeNo, Slot)>],
+        ranks: &[Ranks],
     ) -> Result<Vec<EdgeChange>, AllocError>
         requires kept { IsRows self.now }
         requires standing { standing.now ≡ map (standing_at self.now) edges.now }
+        requires ranks { ranks.now ≡ map (ranks_standing self.now) standing.now }
         ensures { IfOk result (λ changes. changes.items ≡ filter_map (placed_change self.now) edges.now) }
     {
         let mut changes = Vec::with_capacity(alloc, edges.len())?;
         for i in 0..edges.len() {
-            self.add_edge_change(&edges[i], &standing[i], &mut changes)?;
+            self.add_edge_change(&edges[i], &standing[i], ranks[i], &mut changes)?;
         }
         Ok(changes)
     }

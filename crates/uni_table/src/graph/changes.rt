@@ -3,7 +3,7 @@ ghost use Rattle.std.specs.Prelude.{◌≡◌, ◌++◌, ◌∷◌, [], nat_eq, 
 ghost use Rattle.std.specs.List.{IsDistinct, filter_map};
 ghost use Rattle.std.specs.Option.{option_to_list};
 ghost use Rattle.uni_table.specs.Changes.{HasEntityChanges};
-ghost use Rattle.uni_table.specs.GraphChanges.{entity_change_at, is_affected_by, ranks_at, untouched_at, AddsLed, AddsLedBy, AddsMoved, AreAffected};
+ghost use Rattle.uni_table.specs.GraphChanges.{before_at, entity_change_at, is_affected_by, moved_last_at, place_of, ranks_at, untouched_at, AddsMoved, AreAffected};
 ghost use Rattle.uni_table.specs.GraphRows.{contents_of, published_of, IsRows};
 
 use super::numbers::{Ranks, Side, Slot};
@@ -24,6 +24,23 @@ pub(super) fn push<T: Drop>(items: &mut Vec<T>, item: T) -> Result<(), AllocErro
 {
     items.push(item)?;
     Ok(())
+}
+
+// Adds an item to a list, if there is one.
+fn push_some<T: Drop>(items: &mut Vec<T>, item: Option<T>) -> Result<(), AllocError>
+    ensures { OnOk result (items.new.items ≡ items.old.items ++ option_to_list item) }
+{
+    if let Some(item) = item {
+        items.push(item)?;
+    }
+    Ok(())
+}
+
+// The place of a number: they count from 1, and 0 is none.
+fn place_of(number: u32) -> Option<u32>
+    ensures { result ≡ place_of number }
+{
+    if number > 0 { Some(number - 1) } else { None }
 }
 
 impl Rows {
@@ -99,39 +116,51 @@ impl Rows {
         push(places, place)
     }
 
-    // Adds the places of the edges that reach the id of a number and that the batch has not touched, gone or
-    // not, the last one first.
-    fn add_led(&self, number: usize, places: &mut Vec<u32>) -> Result<(), AllocError>
-        requires { IsRows self.now }
-        ensures { OnOk result (AddsLed self.now number places.old.items places.new.items) }
-    {
-        let mut next = self.last(Side::Target, number);
-        while next > 0 {
-            self.add_untouched(next - 1, places)?;
-            next = self.next(Side::Target, next as usize - 1);
-        }
-        Ok(())
-    }
-
-    // Adds the places of such edges, if the id has another rank.
-    fn add_led_by(&self, number: usize, places: &mut Vec<u32>) -> Result<(), AllocError>
-        requires { IsRows self.now }
-        ensures { OnOk result (AddsLedBy self.now number places.old.items places.new.items) }
+    // The place of the last edge that reaches the id of a number, gone or not, if the id has another rank.
+    fn moved_last(&self, number: usize) -> Option<u32>
+        ensures { result ≡ moved_last_at self.now number }
     {
         if self.ranks_at(number).differ() {
-            self.add_led(number, places)?;
+            place_of(self.last(Side::Target, number))
+        } else {
+            None
         }
-        Ok(())
     }
 
-    // Adds the places of such edges of all ids with another rank.
-    fn add_moved(&self, places: &mut Vec<u32>) -> Result<(), AllocError>
+    // The place of the edge before the one at a place among those with its target.
+    fn before_into(&self, place: u32) -> Option<u32>
+        ensures { result ≡ before_at self.now place }
+    {
+        let (_, slot) = self.edges.get_index(place as usize)?;
+        place_of(slot.next_into)
+    }
+
+    // The places of the last edges that reach the ids of other ranks.
+    fn moved_lasts(&self, alloc: Global) -> Result<Vec<u32>, AllocError>
+        ensures { IfOk result (λ places. places.items ≡ filter_map (moved_last_at self.now) self.now.touched_ids.items) }
+    {
+        let mut places = Vec::new(alloc);
+        for number in self.touched_ids.as_slice() {
+            let number = *number;
+            push_some(&mut places, self.moved_last(number as usize))?;
+        }
+        Ok(places)
+    }
+
+    // Adds the places of the edges that reach an id with another rank and that the batch has not touched, gone
+    // or not. All chains are walked side by side, a step of each in turn: a step waits for its row, and the
+    // waits of steps of other chains overlap.
+    fn add_moved(&self, alloc: Global, places: &mut Vec<u32>) -> Result<(), AllocError>
         requires { IsRows self.now }
         ensures { OnOk result (AddsMoved self.now self.now.touched_ids.items places.old.items places.new.items) }
     {
-        for number in self.touched_ids.as_slice() {
-            let number = *number;
-            self.add_led_by(number as usize, places)?;
+        let mut walk = self.moved_lasts(alloc)?;
+        let mut at = 0;
+        while at < walk.len() {
+            let place = walk[at];
+            self.add_untouched(place, places)?;
+            push_some(&mut walk, self.before_into(place))?;
+            at += 1;
         }
         Ok(())
     }
@@ -144,7 +173,7 @@ impl Rows {
         ensures whole { IfOk result (λ places. AreAffected self.now places.items) }
     {
         let mut places = Vec::new(alloc);
-        self.add_moved(&mut places)?;
+        self.add_moved(alloc, &mut places)?;
         let are_others = !places.is_empty();
         places.extend_from_slice(self.touched_edges.as_slice())?;
         if !are_others {
