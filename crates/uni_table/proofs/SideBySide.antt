@@ -129,7 +129,7 @@ module _ (rows : Rows) (kept : IsRows rows) where
             (subst (IsAlong rows Target number) last (along-start rows kept Target number))
             led
             (subst (λ ys. Contains ys r) (sym closed) (Contains-append_left (filter_map (moved_last_at rows) numbers) (filter_map (before_at rows) walk) r
-              (picked-contains (moved_last_at rows) numbers number r there (ap (λ b. if b then place_of (last_at Target rows number) else None) moved ∙ ap place_of last))))
+            (picked-contains (moved_last_at rows) numbers number r there (ap (λ b. if b then place_of (last_at Target rows number) else None) moved ∙ ap place_of last))))
             (short (nat_lt r place) refl)
           where
             short : (b : Bool) → nat_lt r place ≡ b → place ≤ r

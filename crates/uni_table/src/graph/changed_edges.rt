@@ -55,12 +55,9 @@ impl<'a> ChangedEdges<'a> {
         let edges = &self.edges[from..to];
         let standing = self.rows.standing(self.alloc, edges)?;
         let ranks = self.rows.target_ranks(self.alloc, standing.as_slice())?;
-        let changes = self.rows.edge_changes_at(
-            self.alloc,
-            edges,
-            standing.as_slice(),
-            ranks.as_slice(),
-        )?;
+        let changes = self
+            .rows
+            .edge_changes_at(self.alloc, edges, standing.as_slice(), ranks.as_slice())?;
         Ok(EdgeChanges::from_vec(changes))
     }
 }
