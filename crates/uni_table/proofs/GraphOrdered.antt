@@ -1,7 +1,9 @@
 -- The changes of edges, as they are made of places in the order of the edges.
-use Rattle.std.proofs.Common.{◌≡◌, ℕ, suc, Bool, true, false, if◌then◌else◌, List, [], ◌∷◌, Option, None, Some, refl, sym, ◌∙◌, ap, subst, length, slice_get, nat_eq, ◌<◌}
+use Rattle.std.proofs.Common.{arith, ◌≡◌, ◌+◌, ◌*◌, ◌%◌, ◌==◌, ℕ, suc, nat_lt, Bool, true, false, if◌then◌else◌, List, [], ◌∷◌, Option, None, Some, refl, sym, ◌∙◌, ap, subst, length, slice_get, nat_eq, ◌<◌}
 use Rattle.std.proofs.lemmas.Map.Entries.{length-keys_of}
 use Rattle.std.proofs.lemmas.List.Sorted.{length_permutation}
+use Rattle.std.proofs.lemmas.Bool.Decides.{nat_tests}
+use Rattle.std.proofs.lemmas.Nat.{div-mul-add, mod-mul-add}
 use Rattle.std.proofs.lemmas.Option.{slice_get-get_or}
 use Rattle.std.specs.List.{IsDistinct, filter_map, cons_option}
 use Rattle.std.specs.List.Sorted.{IsPermutation, IsSortedByKey}
@@ -14,7 +16,7 @@ use Rattle.uni_base.specs.EdgeOrder.{edge_cmp}
 use Rattle.uni_table.specs.Changes.{AreEdgeChanges, IsEdgeChange}
 use Rattle.uni_table.specs.GraphChanges.{AreAffected, change_of, edge_change, edge_change_at, is_affected}
 use Rattle.uni_table.specs.GraphKeys.{edge_total, exact_edges}
-use Rattle.uni_table.specs.GraphOrder.{HaveChanges, short_key, key_meant, edge_told, placed, affected_by, affected_at, placed_change}
+use Rattle.uni_table.specs.GraphOrder.{HaveChanges, short_no, id_of_no, key_at, key_told, type_told, edge_told, placed, affected_by, affected_at, placed_change}
 use Rattle.uni_table.specs.GraphRows.{IsRows, contents_of, published_of, edge_named, source_named}
 use Rattle.uni_table.specs.declared.change.EdgeChange.{EdgeChange}
 use Rattle.uni_table.specs.declared.graph.numbers.EdgeNo.{EdgeNo}
@@ -27,10 +29,28 @@ use Rattle.uni_table.proofs.InOrder.{exact_in_order}
 use Rattle.uni_table.proofs.Permuted.{permuted-filter_map}
 use Rattle.uni_table.proofs.PickedInOrder.{IsNamed, picked_in_order}
 
--- a key in few bytes stands for the key, where the source has it
-meant : (sources : List Source) (number id : ℕ) (source : Source) (key : Key) → slice_get sources number ≡ Some source → source.key ≡ key → key_meant sources id (short_key number key) ≡ key
-meant sources number id source (Id a) at is = refl
-meant sources number id source (Word text) at is = ap (λ (o : Option Source). option_map_or (λ s. s.key) o (Id id)) at ∙ is
+-- the number of a key is within those that a type has
+short_below : (key : Key) → short_no key < 281474976710656
+short_below (Id id) = by (nat_lt id 281474976710655) refl
+  where
+    by : (b : Bool) → nat_lt id 281474976710655 ≡ b → (if b then id else 281474976710655) < 281474976710656
+    by true e = grind (arith, nat_tests, e)
+    by false e = omega arith
+short_below (Word text) = omega arith
+
+-- where it is that of an id, it is the key's own
+short_meant : (key other : Key) → other ≡ key → option_map_or (λ id. Id id) (id_of_no (short_no key)) other ≡ key
+short_meant (Id id) other same = by (nat_lt id 281474976710655)
+  where
+    by : (b : Bool) → option_map_or (λ n. Id n) (id_of_no (if b then id else 281474976710655)) other ≡ Id id
+    by false = same
+    by true = own (id == 281474976710655) (id == 0)
+      where
+        own : (b c : Bool) → option_map_or (λ n. Id n) (if b then None else (if c then None else Some id)) other ≡ Id id
+        own true c = same
+        own false true = same
+        own false false = refl
+short_meant (Word text) other same = same
 
 module _ (rows : Rows) where
   abbrev named : EdgeNo × Slot → EdgeRef
@@ -49,10 +69,15 @@ module _ (rows : Rows) where
     told : (place : ℕ) (e : EdgeNo × Slot) → slice_get rows.edges.entries place ≡ Some e → edge_told rows (placed e.0 place (named e)) ≡ named e
     told place e at =
         let sources = keys_of rows.sources.entries in
+        let edge = named e in
+        let p = placed e.0 place edge in
         let within : e.0.source < length sources = subst (λ n. e.0.source < n) (sym (length-keys_of rows.sources.entries)) (kept.known place e at).source in
-        let key = meant sources e.0.source (named e).target (source_named sources e.0.source) (named e).key
-        (slice_get-get_or sources e.0.source (record { type_no = 0; key = Id 0 }) within) refl in
-        λ j. record { type_no = (named e).type_no; key = key j; target = (named e).target }
+        let source : slice_get sources e.0.source ≡ Some (source_named sources e.0.source) = slice_get-get_or sources e.0.source (record { type_no = 0; key = Id 0 }) within in
+        let there : key_at sources p ≡ edge.key = ap (λ (o : Option Source). option_map_or (λ s. s.key) o (Id edge.target)) source in
+        let type_no : type_told p ≡ edge.type_no = div-mul-add edge.type_no 281474976710656 (short_no edge.key) (short_below edge.key) in
+        let number : p.lead % 281474976710656 ≡ short_no edge.key = mod-mul-add edge.type_no 281474976710656 (short_no edge.key) (short_below edge.key) in
+        let key : key_told sources p ≡ edge.key = ap (λ n. option_map_or (λ id. Id id) (id_of_no n) (key_at sources p)) number ∙ short_meant edge.key (key_at sources p) there in
+        λ j. record { type_no = type_no j; key = key j; target = edge.target }
 
     -- so the changes at places are those of the edges there that are affected
     picks : (places : List ℕ) → filter_map (placed_change rows) (filter_map (affected_at rows) places) ≡ filter_map (edge_change_at rows) places

@@ -1,5 +1,5 @@
 -- Edges by their places, with what they are ordered by.
-use Rattle.std.specs.Prelude.{ℕ, ◌≡◌, List, Option, None, Some, length, slice_get, if◌then◌else◌}
+use Rattle.std.specs.Prelude.{ℕ, ◌≡◌, ◌+◌, ◌*◌, ◌/◌, ◌%◌, ◌==◌, ◌&&◌, ◌||◌, Bool, not, is_some, nat_lt, List, Option, None, Some, length, slice_get, if◌then◌else◌}
 use Rattle.std.specs.List.{filter_map}
 use Rattle.std.specs.Map.{keys_of}
 use Rattle.std.specs.Option.{option_and_then, option_map, option_map_or}
@@ -14,30 +14,47 @@ use Rattle.uni_table.specs.declared.graph.numbers.Ranks.{Ranks}
 use Rattle.uni_table.specs.declared.graph.numbers.Slot.{Slot}
 use Rattle.uni_table.specs.declared.graph.numbers.Source.{Source}
 use Rattle.uni_table.specs.declared.graph.order.PlacedEdge.{PlacedEdge}
-use Rattle.uni_table.specs.declared.graph.order.ShortKey.{ShortKey}
-use Rattle.uni_table.specs.declared.graph.order.ShortKey.TheVariants as short
 use Rattle.uni_table.specs.declared.graph.rows.Rows.{Rows}
 
--- a key in few bytes: an id, or a word by the number of a source that has it
-abbrev pub short_key : ℕ → Key → ShortKey
-short_key source (Id id) = short.Id id
-short_key source (Word text) = short.Word source
+-- the number of a key in its type: of an id below 2^48 - 1 that id, and of any other key 2^48 - 1
+abbrev pub short_no : Key → ℕ
+short_no (Id id) = if nat_lt id 281474976710655 then id else 281474976710655
+short_no (Word text) = 281474976710655
 
--- the key that it stands for, or an id where there is no such source
-abbrev pub key_meant : List Source → ℕ → ShortKey → Key
-key_meant sources id (short.Id source) = Id source
-key_meant sources id (short.Word number) = option_map_or (λ source. source.key) (slice_get sources number) (Id id)
+-- a type and a key as one number: a type has 2^48 numbers for its keys
+abbrev pub lead_of : ℕ → Key → ℕ
+lead_of type_no key = type_no * 281474976710656 + short_no key
 
+-- the type that an edge is told to have
+abbrev pub type_told : PlacedEdge → ℕ
+type_told edge = edge.lead / 281474976710656
+
+-- the id at which it starts, where the number of its key is that
+abbrev pub id_of_no : ℕ → Option ℕ
+id_of_no number = if number == 281474976710655 then None else (if number == 0 then None else Some number)
+
+abbrev pub short_id : PlacedEdge → Option ℕ
+short_id edge = id_of_no (edge.lead % 281474976710656)
+
+-- two edges are of two types, or both keys are ids by their numbers
+abbrev pub is_led : PlacedEdge → PlacedEdge → Bool
+is_led one other = not (type_told one == type_told other) || (is_some (short_id one) && is_some (short_id other))
+
+-- the key of its source, or an id where there is no such source
+abbrev pub key_at : List Source → PlacedEdge → Key
+key_at sources edge = option_map_or (λ source. source.key) (slice_get sources edge.source) (Id edge.target)
+
+-- the key that it is told to have
 abbrev pub key_told : List Source → PlacedEdge → Key
-key_told sources edge = key_meant sources edge.target edge.key
+key_told sources edge = option_map_or (λ id. Id id) (short_id edge) (key_at sources edge)
 
 -- the edge itself
 abbrev pub edge_told : Rows → PlacedEdge → EdgeRef
-edge_told rows edge = record { type_no = edge.type_no; key = key_told (keys_of rows.sources.entries) edge; target = edge.target }
+edge_told rows edge = record { type_no = type_told edge; key = key_told (keys_of rows.sources.entries) edge; target = edge.target }
 
 -- a named edge in few bytes, with its place
 abbrev pub placed : EdgeNo → ℕ → EdgeRef → PlacedEdge
-placed number place edge = record { type_no = edge.type_no; key = short_key number.source edge.key; target = edge.target; place = place }
+placed number place edge = record { lead = lead_of edge.type_no edge.key; target = edge.target; source = number.source; place = place }
 
 -- the edge at a place, if it is affected
 abbrev pub affected_by : Rows → ℕ → EdgeNo × Slot → Option PlacedEdge

@@ -18,10 +18,10 @@ pub(crate) struct Source {
 pub(crate) struct Node {
     /// the entity, if it is one
     pub row: Option<EntityRow>,
-    /// the entity that it was at the last publish
-    pub before: EntityBefore,
     /// the number of the last edge that leads there, gone or not, or 0
     pub last_edge: u32,
+    /// the entity that it was at the last publish
+    pub before: EntityBefore,
 }
 
 /// What an id was at the last publish: what it is now, no entity, or one.
@@ -223,11 +223,11 @@ pub(crate) struct Slot {
     pub state: SlotState,
     /// the number of the publish that ends the edge, or 0
     pub end: u64,
-    pub before: Before,
     /// the number of the last earlier edge with the same target, or 0
     pub next_into: u32,
     /// the number of the last earlier edge with the same source, or 0
     pub next_from: u32,
+    pub before: Before,
 }
 
 /// The two ends at which an edge is chained to earlier ones.

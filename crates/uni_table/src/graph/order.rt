@@ -1,10 +1,10 @@
 //! Edges by their places, in the order of type numbers, keys and targets.
-ghost use Rattle.std.specs.Prelude.{◌≡◌, ◌++◌, map, slice_get, IfOk, OnOk, IsPermutation, IsSortedByKey};
+ghost use Rattle.std.specs.Prelude.{◌≡◌, ◌<◌, ◌++◌, false, true, is_some, map, slice_get, IfOk, OnOk, IsPermutation, IsSortedByKey};
 ghost use Rattle.std.specs.List.{filter_map};
 ghost use Rattle.std.specs.Map.{keys_of};
 ghost use Rattle.std.specs.Option.{option_to_list};
 ghost use Rattle.uni_base.specs.EdgeOrder.{edge_cmp};
-ghost use Rattle.uni_table.specs.GraphOrder.{edge_told, key_told, short_key, affected_at, standing_at};
+ghost use Rattle.uni_table.specs.GraphOrder.{edge_told, key_told, short_no, short_id, is_led, lead_of, type_told, affected_at, standing_at};
 ghost use Rattle.uni_table.specs.GraphRows.{IsRows};
 
 use super::changes::{is_affected, push};
@@ -14,30 +14,77 @@ use std::alloc::{AllocError, Global};
 use std::cmp::Ordering;
 use uni_base::{EdgeRef, EntityId, Key};
 
-/// A key in few bytes: an id, or a word by the number of a source that has it.
-#[derive(Clone, Copy, Debug)]
-pub(crate) enum ShortKey {
-    Id(EntityId),
-    Word(u32),
-}
+/// How many numbers a type has for its keys: 2^48.
+const SPAN: u64 = 281_474_976_710_656;
+
+/// The number of every key of a type that has none of its own: of the words, and of the ids from it on.
+const LAST: u64 = SPAN - 1;
 
 /// The place of an edge, with what the edge is ordered by.
 #[derive(Clone, Copy, Debug)]
 pub(crate) struct PlacedEdge {
-    pub key: ShortKey,
+    /// its type and its key as one number
+    pub lead: u64,
     pub target: EntityId,
+    /// the number of its source, which has the key
+    pub source: u32,
     pub place: u32,
-    pub type_no: u16,
 }
 
-// The key of a source in few bytes.
-fn short_key(key: &Key, source: u32) -> ShortKey
-    ensures { result ≡ short_key source key.now }
+// The number of a key in its type.
+fn short_no(key: &Key) -> u64
+    ensures number { result ≡ short_no key.now }
+    ensures within { result < 281474976710656 }
 {
     match key {
-        Key::Id(id) => ShortKey::Id(*id),
-        Key::Word(_) => ShortKey::Word(source),
+        Key::Id(id) => {
+            let number = id.get();
+            if number < LAST { number } else { LAST }
+        }
+        Key::Word(_) => LAST,
     }
+}
+
+// A type and a key as one number.
+fn lead(type_no: u16, key: &Key) -> u64
+    ensures { result ≡ lead_of type_no key.now }
+{
+    u64::from(type_no) * SPAN + short_no(key)
+}
+
+impl PlacedEdge {
+    // The number of its type.
+    fn type_no(&self) -> u16
+        ensures { result ≡ type_told self.now }
+    {
+        (self.lead / SPAN) as u16
+    }
+
+    // The id at which it starts, where the number of its key is that.
+    fn short_id(&self) -> Option<EntityId>
+        ensures { result ≡ short_id self.now }
+    {
+        let number = self.lead % SPAN;
+        if number == LAST {
+            return None;
+        }
+        EntityId::new(number)
+    }
+
+    // Whether the number of its key is an id.
+    fn is_short(&self) -> bool
+        ensures { result ≡ is_some (short_id self.now) }
+    {
+        let number = self.lead % SPAN;
+        number != 0 && number != LAST
+    }
+}
+
+// Whether two edges are of two types, or both keys are ids by their numbers.
+fn is_led(one: &PlacedEdge, other: &PlacedEdge) -> bool
+    ensures { result ≡ is_led one.now other.now }
+{
+    (one.type_no() != other.type_no()) | (one.is_short() & other.is_short())
 }
 
 impl Rows {
@@ -45,9 +92,9 @@ impl Rows {
     fn key_of(&self, edge: &PlacedEdge) -> Key
         ensures { result ≡ key_told (keys_of self.now.sources.entries) edge.now }
     {
-        match edge.key {
-            ShortKey::Id(id) => Key::Id(id),
-            ShortKey::Word(number) => match self.sources.get_index(number as usize) {
+        match edge.short_id() {
+            Some(id) => Key::Id(id),
+            None => match self.sources.get_index(edge.source as usize) {
                 Some((source, _)) => source.key,
                 None => Key::Id(edge.target),
             },
@@ -59,7 +106,7 @@ impl Rows {
         ensures { result ≡ edge_told self.now edge.now }
     {
         EdgeRef {
-            type_no: edge.type_no,
+            type_no: edge.type_no(),
             key: self.key_of(edge),
             target: edge.target,
         }
@@ -69,7 +116,7 @@ impl Rows {
     fn compare_told(&self, one: &PlacedEdge, other: &PlacedEdge) -> Ordering
         ensures { result ≡ edge_cmp (edge_told self.now one.now) (edge_told self.now other.now) }
     {
-        match one.type_no.cmp(&other.type_no) {
+        match one.type_no().cmp(&other.type_no()) {
             Ordering::Equal => match self.key_of(one).cmp(&self.key_of(other)) {
                 Ordering::Equal => one.target.cmp(&other.target),
                 unequal => unequal,
@@ -80,32 +127,46 @@ impl Rows {
 
     // The order of two edges of one source, which is that of their targets within a type.
     fn compare_targets(&self, one: &PlacedEdge, other: &PlacedEdge) -> Ordering
-        requires { one.now.key ≡ other.now.key }
+        requires one { is_some (short_id one.now) ≡ false }
+        requires other { is_some (short_id other.now) ≡ false }
+        requires source { one.now.source ≡ other.now.source }
         ensures { result ≡ edge_cmp (edge_told self.now one.now) (edge_told self.now other.now) }
     {
-        one.type_no
-            .cmp(&other.type_no)
+        one.type_no()
+            .cmp(&other.type_no())
             .then(one.target.get().cmp(&other.target.get()))
     }
 
-    // The order of two edges. Where both keys are ids it is told by all three numbers of each, since a branch
-    // after each of them would often be guessed wrong. Words of one number are those of one source.
+    // The order of two edges, by the number of the source where both have one and the same.
+    #[inline(never)]
+    fn compare_long(&self, one: &PlacedEdge, other: &PlacedEdge) -> Ordering
+        ensures { result ≡ edge_cmp (edge_told self.now one.now) (edge_told self.now other.now) }
+    {
+        if one.source == other.source && !one.is_short() && !other.is_short() {
+            return self.compare_targets(one, other);
+        }
+        self.compare_told(one, other)
+    }
+
+    // The order of two edges of two types, or whose keys are ids by their numbers.
+    fn compare_leads(&self, one: &PlacedEdge, other: &PlacedEdge) -> Ordering
+        requires { is_led one.now other.now ≡ true }
+        ensures { result ≡ edge_cmp (edge_told self.now one.now) (edge_told self.now other.now) }
+    {
+        one.lead
+            .cmp(&other.lead)
+            .then(one.target.get().cmp(&other.target.get()))
+    }
+
+    // The order of two edges. It is told by two numbers of each, but where the keys are of one type and one of
+    // them is no id by its number.
     fn compare(&self, one: &PlacedEdge, other: &PlacedEdge) -> Ordering
         ensures { result ≡ edge_cmp (edge_told self.now one.now) (edge_told self.now other.now) }
     {
-        match one.key {
-            ShortKey::Id(id) => match other.key {
-                ShortKey::Id(of) => one
-                    .type_no
-                    .cmp(&other.type_no)
-                    .then(id.get().cmp(&of.get()))
-                    .then(one.target.get().cmp(&other.target.get())),
-                ShortKey::Word(_) => self.compare_told(one, other),
-            },
-            ShortKey::Word(number) => match other.key {
-                ShortKey::Word(of) if number == of => self.compare_targets(one, other),
-                _ => self.compare_told(one, other),
-            },
+        if is_led(one, other) {
+            self.compare_leads(one, other)
+        } else {
+            self.compare_long(one, other)
         }
     }
 
@@ -121,12 +182,11 @@ impl Rows {
             return Ok(());
         }
         let named = self.edge_ref(*number);
-        let key = short_key(&named.key, number.source);
         let edge = PlacedEdge {
-            key,
+            lead: lead(named.type_no, &named.key),
             target: named.target,
+            source: number.source,
             place,
-            type_no: named.type_no,
         };
         push(edges, edge)
     }
