@@ -1,4 +1,5 @@
--- Rounds that publish, compact a stack and show all stacks, with the text that answers them.
+-- Rounds that publish, compact a stack and show all stacks, with the text that answers them; and what `bench` writes of
+-- two people.
 use Rattle.std.specs.Prelude.{ℕ, false, ◌≡◌, List, [], ◌∷◌, codes, map}
 use Rattle.uni_base.specs.StandardLimits.{standard_limits}
 use Rattle.uni_schema.specs.Schema.{Declarations}
@@ -6,6 +7,7 @@ use Rattle.reply_text.specs.Printed.{answers_text}
 use Rattle.script_rounds.specs.Entries.{Entry, publish, compact, stats}
 use Rattle.script_rounds.specs.Terms.{Terms, under}
 use Rattle.unicorn_round.specs.Answers.{answers}
+use Rattle.unicorn_round.specs.Counts.{summary}
 use Rattle.unicorn_round.specs.Marks.{plain, lacking, at}
 use Rattle.unicorn_round.specs.Plain.{plain_record}
 
@@ -53,3 +55,8 @@ pub record WorkedRounds : Type 0 where
       (record { marks = plain ∷ []; untidied = [] }
       ∷ record { marks = plain ∷ lacking ∷ plain ∷ plain ∷ plain ∷ plain ∷ plain ∷ plain ∷ []; untidied = [] } ∷ []))
       ≡ codes "published 31 1\npublished 33 2\nmemory 34\npublished 35 3\npublished 36 4\npublished 37 5\npublished 38 6\npublished 39 7\nstats 40 at 7 stacks 5\nstack user 0 0 layers 8\nstack user 0 1 layers 8\nstack user 1 0 layers 8\nstack user 1 1 layers 8\nstack photo 0 0 layers 8\n"
+
+-- The line that `bench` writes of the script that is made from the seed 1 and 2 people: eleven publishes, and after each
+-- of them nine queries, which show twelve hits.
+pub record WorkedBench : Type 0 where
+  pub two_people : summary 1 2 ≡ codes "bench people 2 publishes 11 asks 99 hits 132 sum 198\n"
