@@ -1,5 +1,5 @@
 //! The rows of a graph, each map by number, and the numbers of edges and audiences.
-ghost use Rattle.std.specs.Prelude.{◌≡◌, ◌<◌, ◌^◌, true, None, Some, length, nat_eq, slice_get, IfOk, OnOk, OnErr};
+ghost use Rattle.std.specs.Prelude.{◌≡◌, ◌<◌, ◌^◌, true, None, Some, length, nat_eq, slice_get, IfOk, IfSome, OnOk, OnErr};
 ghost use Rattle.std.specs.Map.{keys_of, lookup};
 ghost use Rattle.indexmap.specs.IndexMap.{IsUnique};
 ghost use Rattle.uni_table.specs.Contents.{empty};
@@ -21,6 +21,8 @@ pub(crate) struct Rows {
     pub ids: IndexMap<EntityId, Node>,
     /// each type and key with the number of the last edge that starts there, gone or not, or 0
     pub sources: IndexMap<Source, u32>,
+    /// for an id, from 1 on, a number of a source that starts there, counted from 1, or 0: where to look first
+    pub starts: Vec<u32>,
     pub edges: IndexMap<EdgeNo, Slot>,
     /// ends with the numbers of edges: an entry counts while its edge lives and has that end
     pub ends: BTreeSet<(u64, u32)>,
@@ -55,6 +57,24 @@ fn add_key<K: Eq + Hash + Copy, V: Drop>(
     Ok(index as u32)
 }
 
+// Notes the number of a source at its id, where that is no larger than so many ids.
+fn note_start(starts: &mut Vec<u32>, ids: usize, key: &Key, number: u32) -> Result<(), AllocError>
+    requires { number < 2 ^ 32 }
+{
+    let Key::Id(id) = key else {
+        return Ok(());
+    };
+    let place = id.get().saturating_sub(1) as usize;
+    if place >= ids || number == u32::MAX {
+        return Ok(());
+    }
+    if starts.len() <= place {
+        starts.resize(place + 1, 0)?;
+    }
+    starts[place] = number + 1;
+    Ok(())
+}
+
 impl Rows {
     /// Nothing.
     pub fn new(alloc: Global) -> Rows
@@ -65,6 +85,7 @@ impl Rows {
         Rows {
             ids: IndexMap::new(alloc),
             sources: IndexMap::new(alloc),
+            starts: Vec::new(alloc),
             edges: IndexMap::new(alloc),
             ends: BTreeSet::new(alloc),
             entity_count: 0,
@@ -94,7 +115,9 @@ impl Rows {
         ensures ids { self.new.ids ≡ self.old.ids }
         ensures number { IfOk result (λ n. slice_get (keys_of self.new.sources.entries) n ≡ Some (record { type_no = type_no; key = key })) }
     {
-        add_key(&mut self.sources, Source { type_no, key }, 0)
+        let number = add_key(&mut self.sources, Source { type_no, key }, 0)?;
+        note_start(&mut self.starts, self.ids.len(), &key, number)?;
+        Ok(number)
     }
 
     /// The number of an id.
@@ -162,7 +185,33 @@ impl Rows {
         ensures { IsIndexOf source_eq (keys_of self.now.sources.entries) (record { type_no = type_no; key = key.now }) result }
     {
         let source = Source { type_no, key: *key };
-        match self.sources.get_full(&source) {
+        match self.noted_source(&source) {
+            Some(index) => Some(index),
+            None => self.hashed_source(&source),
+        }
+    }
+
+    // The index of a source, if it is the one that was noted of its id.
+    fn noted_source(&self, source: &Source) -> Option<usize>
+        ensures { IfSome result (λ index. slice_get (keys_of self.now.sources.entries) index ≡ Some source.now) }
+    {
+        let Key::Id(id) = source.key else {
+            return None;
+        };
+        let number = *self.starts.get(id.get().saturating_sub(1) as usize)?;
+        if number == 0 {
+            return None;
+        }
+        let index = (number - 1) as usize;
+        let (known, _last) = self.sources.get_index(index)?;
+        if known == source { Some(index) } else { None }
+    }
+
+    // The same of any source, by a hash.
+    fn hashed_source(&self, source: &Source) -> Option<usize>
+        ensures { IsIndexOf source_eq (keys_of self.now.sources.entries) source.now result }
+    {
+        match self.sources.get_full(source) {
             Some((index, _, _)) => Some(index),
             None => None,
         }
@@ -232,6 +281,7 @@ impl Rows {
         Ok(Rows {
             ids: self.ids.clone()?,
             sources: self.sources.clone()?,
+            starts: self.starts.clone()?,
             edges: self.edges.clone()?,
             ends: self.ends.clone()?,
             entity_count: self.entity_count,

@@ -11,5 +11,19 @@ pub returns-clause-quiet : goal.returns-clause-quiet
 returns-clause-quiet c =
     let old = c.args.self.now in
     let more = c.add_key.ensures in
+    quiet-grown old (record old { sources = c.add_key.new.map; starts = c.note_start.new.starts }) c.requires.kept 0 (record { row = None; before = Rattle.uni_table.specs.declared.graph.numbers.EntityBefore.TheVariants.Same; last_edge = 0 }) refl refl refl (inl refl)
+    (record { type_no = c.args.type_no; key = c.args.key }) more.grown refl refl refl refl c.requires.kept.ids more.unique c.requires.kept.few_ids more.few c.requires.kept.touched_ids refl
+
+pub returns-in_err-note_start-clause-quiet : goal.returns-in_err-note_start-clause-quiet
+returns-in_err-note_start-clause-quiet c =
+    let old = c.args.self.now in
+    let more = c.add_key.ensures in
+    quiet-grown old (record old { sources = c.add_key.new.map; starts = c.note_start.new.starts }) c.requires.kept 0 (record { row = None; before = Rattle.uni_table.specs.declared.graph.numbers.EntityBefore.TheVariants.Same; last_edge = 0 }) refl refl refl (inl refl)
+    (record { type_no = c.args.type_no; key = c.args.key }) more.grown refl refl refl refl c.requires.kept.ids more.unique c.requires.kept.few_ids more.few c.requires.kept.touched_ids refl
+
+pub returns-in_err-number-clause-quiet : goal.returns-in_err-number-clause-quiet
+returns-in_err-number-clause-quiet c =
+    let old = c.args.self.now in
+    let more = c.add_key.ensures in
     quiet-grown old (record old { sources = c.add_key.new.map }) c.requires.kept 0 (record { row = None; before = Rattle.uni_table.specs.declared.graph.numbers.EntityBefore.TheVariants.Same; last_edge = 0 }) refl refl refl (inl refl)
     (record { type_no = c.args.type_no; key = c.args.key }) more.grown refl refl refl refl c.requires.kept.ids more.unique c.requires.kept.few_ids more.few c.requires.kept.touched_ids refl
