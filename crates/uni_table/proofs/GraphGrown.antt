@@ -28,6 +28,7 @@ use Rattle.uni_table.specs.declared.graph.numbers.Slot.{Slot}
 use Rattle.uni_table.specs.declared.command.EdgeRow.{EdgeRow}
 use Rattle.uni_table.specs.declared.graph.numbers.Before.{Before}
 use Rattle.uni_table.specs.declared.graph.numbers.Before.TheVariants as before
+use Rattle.uni_table.specs.declared.graph.numbers.EntityBefore.TheVariants as entity_then
 use Rattle.uni_table.specs.declared.graph.numbers.SlotState.{SlotState}
 use Rattle.uni_table.specs.declared.graph.numbers.SlotState.TheVariants.{Gone, Public, Only, Circle}
 use Rattle.uni_table.specs.declared.graph.numbers.Side.{Side}
@@ -232,3 +233,11 @@ quiet-place old new kept quiet edge (Some i) (e, at, is) =
       ap (λ es. slice_get es i) quiet.edges ∙ at,
       edge-same (keys_of old.sources.entries) (keys_of new.sources.entries) (keys_of old.ids.entries) (keys_of new.ids.entries) quiet.sources quiet.ids e.0 known.source known.target ∙ is,
     )
+
+-- a source that is added changes nothing else, and neither does what is noted of sources
+pub quiet-source : (old more : Rows) → IsRows old → (source : Source) → Grows old.sources.entries more.sources.entries source 0
+    → IsDistinct source_eq (keys_of more.sources.entries) → length more.sources.entries < 2 ^ 32
+    → IsQuiet old (record old { sources = more.sources; starts = more.starts })
+quiet-source old more kept source grown apart few =
+    quiet-grown old (record old { sources = more.sources; starts = more.starts }) kept 0 (record { row = None; before = entity_then.Same; last_edge = 0 }) refl refl refl (inl refl)
+    source grown refl refl refl refl kept.ids apart kept.few_ids few kept.touched_ids refl

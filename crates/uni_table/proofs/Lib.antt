@@ -30,6 +30,7 @@ pub mod Kept
 mod Keys
 mod Leaving
 pub mod Listed
+pub mod Noted
 mod Permuted
 mod PickedInOrder
 mod PickedParts

@@ -7,7 +7,7 @@ use Rattle.std.specs.Map.{keys_of}
 use Rattle.std.specs.Bool.{⊤}
 use Rattle.std.specs.Option.{option_and_then, option_to_list}
 use Rattle.chained_rows.proofs.Chains.{last_no-le}
-use Rattle.uni_table.specs.GraphChanges.{AddsMoved, IsLed, before_at, moved_at, moved_last_at, place_of, untouched_at}
+use Rattle.uni_table.specs.GraphChanges.{AddsMoved, IsLed, earlier_at, moved_at, moved_last_at, place_of, untouched_at}
 use Rattle.uni_table.specs.GraphRows.{IsRows, has_at, last_at, next_at, no_at}
 use Rattle.uni_table.specs.declared.graph.numbers.EdgeNo.{EdgeNo}
 use Rattle.uni_table.specs.declared.graph.numbers.Slot.{Slot}
@@ -69,7 +69,7 @@ picked-contains {X} {Y} f (z ∷ zs) x y (suc k, below, is) some = by (picked-co
 
 module _ (rows : Rows) (kept : IsRows rows) where
   -- the edge before one lies at an earlier place
-  pub before-earlier : (place : ℕ) → IsEarlier place (before_at rows place)
+  pub before-earlier : (place : ℕ) → IsEarlier place (earlier_at rows place)
   before-earlier place = by (slice_get rows.edges.entries place) refl
     where
       at_edge : (e : EdgeNo × Slot) → slice_get rows.edges.entries place ≡ Some e → (n : ℕ) → next_at Target e.1 ≡ n → IsEarlier place (place_of n)
@@ -81,11 +81,11 @@ module _ (rows : Rows) (kept : IsRows rows) where
       by None at = tt
       by (Some e) at = at_edge e at (next_at Target e.1) refl
 
-  module _ (numbers walk : List ℕ) (closed : walk ≡ filter_map (moved_last_at rows) numbers ++ filter_map (before_at rows) walk) where
+  module _ (numbers walk : List ℕ) (closed : walk ≡ filter_map (moved_last_at rows) numbers ++ filter_map (earlier_at rows) walk) where
     -- with a place a walk has the one before it
-    follows : (place next : ℕ) → Contains walk place → before_at rows place ≡ Some next → Contains walk next
+    follows : (place next : ℕ) → Contains walk place → earlier_at rows place ≡ Some next → Contains walk next
     follows place next there is =
-        subst (λ ys. Contains ys next) (sym closed) (Contains-append_right (filter_map (moved_last_at rows) numbers) (filter_map (before_at rows) walk) next (picked-contains (before_at rows) walk place next there is))
+        subst (λ ys. Contains ys next) (sym closed) (Contains-append_right (filter_map (moved_last_at rows) numbers) (filter_map (earlier_at rows) walk) next (picked-contains (earlier_at rows) walk place next there is))
 
     -- and all those behind it that reach its target
     reached : (n r number place : ℕ) → r < n → IsAlong rows Target number (suc r) → IsLed rows number place → Contains walk r → place ≤ r → Contains walk place
@@ -128,7 +128,7 @@ module _ (rows : Rows) (kept : IsRows rows) where
         by (suc r) last = reached (suc r) r number place (omega arith)
             (subst (IsAlong rows Target number) last (along-start rows kept Target number))
             led
-            (subst (λ ys. Contains ys r) (sym closed) (Contains-append_left (filter_map (moved_last_at rows) numbers) (filter_map (before_at rows) walk) r
+            (subst (λ ys. Contains ys r) (sym closed) (Contains-append_left (filter_map (moved_last_at rows) numbers) (filter_map (earlier_at rows) walk) r
             (picked-contains (moved_last_at rows) numbers number r there (ap (λ b. if b then place_of (last_at Target rows number) else None) moved ∙ ap place_of last))))
             (short (nat_lt r place) refl)
           where

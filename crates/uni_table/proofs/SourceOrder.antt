@@ -9,7 +9,7 @@ use Rattle.std.specs.Ordering.{nat_cmp, ordering_then}
 use Rattle.uni_base.specs.declared.edge.Key.{Key}
 use Rattle.uni_base.specs.declared.edge.Key.TheVariants.{Id}
 use Rattle.uni_base.specs.EdgeOrder.{key_cmp, key_cmp-total}
-use Rattle.uni_table.specs.GraphOrder.{id_of_no, is_led, key_at, key_told, short_id, type_told}
+use Rattle.uni_table.specs.GraphOrder.{id_of_no, leads_tell, key_at, key_told, short_id, type_told}
 use Rattle.uni_table.specs.declared.graph.numbers.Source.{Source}
 use Rattle.uni_table.specs.declared.graph.order.PlacedEdge.{PlacedEdge}
 
@@ -76,7 +76,7 @@ by_keys sources one other = ordering_then (key_cmp (key_told sources one) (key_t
 
 -- where two edges are of two types, or both keys are ids by their numbers, the numbers that lead them decide,
 -- and then the targets
-pub leads_decide : (sources : List Source) (one other : PlacedEdge) → is_led one other ≡ true
+pub leads_decide : (sources : List Source) (one other : PlacedEdge) → leads_tell one other ≡ true
     → ordering_then (nat_cmp one.lead other.lead) (nat_cmp one.target other.target)
     ≡ ordering_then (nat_cmp (type_told one) (type_told other)) (ordering_then (key_cmp (key_told sources one) (key_told sources other)) (nat_cmp one.target other.target))
 leads_decide sources one other led =

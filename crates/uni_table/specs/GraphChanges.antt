@@ -156,8 +156,8 @@ abbrev pub moved_last_at : Rows → ℕ → Option ℕ
 moved_last_at rows number = if moved_at rows number then place_of (last_at Target rows number) else None
 
 -- the place of the edge before the one at a place among those with its target
-abbrev pub before_at : Rows → ℕ → Option ℕ
-before_at rows place = option_and_then (λ e. place_of e.1.next_into) (slice_get rows.edges.entries place)
+abbrev pub earlier_at : Rows → ℕ → Option ℕ
+earlier_at rows place = option_and_then (λ e. place_of e.1.next_into) (slice_get rows.edges.entries place)
 
 -- the place of an edge that reaches an id of a list with another rank, and that the batch has not touched
 abbrev pub IsLedByMoved : Rows → List ℕ → ℕ → Type 0

@@ -1,5 +1,5 @@
 -- Sources and edges that are compared as equal are the same.
-use Rattle.std.specs.Prelude.{◌≡◌, ◌==◌, ◌&&◌, Bool, true, false, refl}
+use Rattle.std.specs.Prelude.{ℕ, ◌≡◌, ◌-◌, ◌==◌, ◌&&◌, Bool, true, false, not, nat_lt, refl}
 use Rattle.std.specs.declared.cmp.Ordering.{Ordering}
 use Rattle.std.specs.declared.cmp.Ordering.TheVariants.{Less, Equal, Greater}
 use Rattle.std.specs.Cmp.{IsTotalOrder}
@@ -8,6 +8,8 @@ use Rattle.std.proofs.lemmas.Bool.Decides.{nat_tests}
 use Rattle.std.proofs.Common.{arith}
 use Rattle.std.proofs.lemmas.Cmp.{on_total, then_total, nat_cmp_total}
 use Rattle.std.proofs.lemmas.Map.Lookups.{CmpEqualImpliesEq, exact_unsigned}
+use Rattle.uni_base.specs.declared.edge.Key.{Key}
+use Rattle.uni_base.specs.declared.edge.Key.TheVariants.{Id, Word}
 use Rattle.uni_base.specs.EdgeOrder.{edge_cmp, key_cmp, key_cmp-total}
 use Rattle.uni_base.specs.KeyHash.{exact_keys}
 use Rattle.uni_table.specs.declared.graph.numbers.Source.{Source}
@@ -15,6 +17,12 @@ use Rattle.uni_table.specs.declared.graph.numbers.Source.{Source}
 -- whether two are the same type and key
 abbrev pub source_eq : Source → Source → Bool
 source_eq a b = a.type_no == b.type_no && is_eq (key_cmp a.key b.key)
+
+-- whether a number of a source is noted at a place: that of the id of its key, if there are so many ids, and the
+-- number counted from 1 is one of 32 bits
+abbrev pub is_noted_at : ℕ → Key → ℕ → ℕ → Bool
+is_noted_at ids (Id id) number place = (place == id - 1) && (nat_lt place ids && not (number == 4294967295))
+is_noted_at ids (Word text) number place = false
 
 is_equal : (o : Ordering) → is_eq o ≡ true → o ≡ Equal
 is_equal Less e = cc

@@ -37,8 +37,8 @@ abbrev pub short_id : PlacedEdge → Option ℕ
 short_id edge = id_of_no (edge.lead % 281474976710656)
 
 -- two edges are of two types, or both keys are ids by their numbers
-abbrev pub is_led : PlacedEdge → PlacedEdge → Bool
-is_led one other = not (type_told one == type_told other) || (is_some (short_id one) && is_some (short_id other))
+abbrev pub leads_tell : PlacedEdge → PlacedEdge → Bool
+leads_tell one other = not (type_told one == type_told other) || (is_some (short_id one) && is_some (short_id other))
 
 -- the key of its source, or an id where there is no such source
 abbrev pub key_at : List Source → PlacedEdge → Key

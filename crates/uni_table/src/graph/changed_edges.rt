@@ -79,10 +79,7 @@ impl Rows {
     {
         match standing {
             Some((number, _)) => self.ranks_at(number.target as usize),
-            None => Ranks {
-                before: None,
-                after: None,
-            },
+            None => Ranks::none(),
         }
     }
 

@@ -3,7 +3,7 @@ ghost use Rattle.std.specs.Prelude.{◌≡◌, ◌++◌, ◌∷◌, [], nat_eq, 
 ghost use Rattle.std.specs.List.{IsDistinct, filter_map};
 ghost use Rattle.std.specs.Option.{option_to_list};
 ghost use Rattle.uni_table.specs.Changes.{HasEntityChanges};
-ghost use Rattle.uni_table.specs.GraphChanges.{before_at, entity_change_at, is_affected_by, moved_last_at, place_of, ranks_at, untouched_at, AddsMoved, AreAffected};
+ghost use Rattle.uni_table.specs.GraphChanges.{earlier_at, entity_change_at, is_affected_by, moved_last_at, place_of, ranks_at, untouched_at, AddsMoved, AreAffected};
 ghost use Rattle.uni_table.specs.GraphRows.{contents_of, published_of, IsRows};
 
 use super::numbers::{Ranks, Side, Slot};
@@ -96,10 +96,7 @@ impl Rows {
     {
         match self.ids.get_index(number) {
             Some((_, node)) => node.ranks(),
-            None => Ranks {
-                before: None,
-                after: None,
-            },
+            None => Ranks::none(),
         }
     }
 
@@ -128,14 +125,14 @@ impl Rows {
     }
 
     // The place of the edge before the one at a place among those with its target.
-    fn before_into(&self, place: u32) -> Option<u32>
-        ensures { result ≡ before_at self.now place }
+    fn earlier_into(&self, place: u32) -> Option<u32>
+        ensures { result ≡ earlier_at self.now place }
     {
         let (_, slot) = self.edges.get_index(place as usize)?;
         place_of(slot.next_into)
     }
 
-    // The places of the last edges that reach the ids of other ranks.
+    // The places of the last edges that reach the ids with another rank.
     fn moved_lasts(&self, alloc: Global) -> Result<Vec<u32>, AllocError>
         ensures { IfOk result (λ places. places.items ≡ filter_map (moved_last_at self.now) self.now.touched_ids.items) }
     {
@@ -159,7 +156,7 @@ impl Rows {
         while at < walk.len() {
             let place = walk[at];
             self.add_untouched(place, places)?;
-            push_some(&mut walk, self.before_into(place))?;
+            push_some(&mut walk, self.earlier_into(place))?;
             at += 1;
         }
         Ok(())

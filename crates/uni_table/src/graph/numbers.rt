@@ -1,6 +1,6 @@
 //! What the rows of a graph are made of: keys by number, and what stands at them.
 ghost use Rattle.std.specs.Prelude.{◌≡◌};
-ghost use Rattle.uni_table.specs.GraphChanges.{differs_from, is_changed, is_changed_entity, is_circle, is_only, is_public, end_before, rank_of, ranks_differ, ranks_of, state_before};
+ghost use Rattle.uni_table.specs.GraphChanges.{differs_from, is_changed, is_changed_entity, is_circle, is_only, is_public, end_before, no_ranks, rank_of, ranks_differ, ranks_of, state_before};
 ghost use Rattle.uni_table.specs.GraphRows.{entity_before, is_ended, is_live, is_same, is_same_entity, next_at, stood, stood_entity, written, written_entity};
 
 use crate::EntityRow;
@@ -123,6 +123,16 @@ pub(crate) struct Ranks {
 }
 
 impl Ranks {
+    /// Those of what is no entity.
+    pub fn none() -> Ranks
+        ensures { result ≡ no_ranks }
+    {
+        Ranks {
+            before: None,
+            after: None,
+        }
+    }
+
     /// Whether they differ.
     pub fn differ(self) -> bool
         ensures { result ≡ ranks_differ self }

@@ -4,7 +4,7 @@ ghost use Rattle.std.specs.List.{filter_map};
 ghost use Rattle.std.specs.Map.{keys_of};
 ghost use Rattle.std.specs.Option.{option_to_list};
 ghost use Rattle.uni_base.specs.EdgeOrder.{edge_cmp};
-ghost use Rattle.uni_table.specs.GraphOrder.{edge_told, key_told, short_no, short_id, is_led, lead_of, type_told, affected_at, standing_at};
+ghost use Rattle.uni_table.specs.GraphOrder.{edge_told, key_told, short_no, short_id, leads_tell, lead_of, type_told, affected_at, standing_at};
 ghost use Rattle.uni_table.specs.GraphRows.{IsRows};
 
 use super::changes::{is_affected, push};
@@ -81,8 +81,8 @@ impl PlacedEdge {
 }
 
 // Whether two edges are of two types, or both keys are ids by their numbers.
-fn is_led(one: &PlacedEdge, other: &PlacedEdge) -> bool
-    ensures { result ≡ is_led one.now other.now }
+fn leads_tell(one: &PlacedEdge, other: &PlacedEdge) -> bool
+    ensures { result ≡ leads_tell one.now other.now }
 {
     (one.type_no() != other.type_no()) | (one.is_short() & other.is_short())
 }
@@ -150,7 +150,7 @@ impl Rows {
 
     // The order of two edges of two types, or whose keys are ids by their numbers.
     fn compare_leads(&self, one: &PlacedEdge, other: &PlacedEdge) -> Ordering
-        requires { is_led one.now other.now ≡ true }
+        requires { leads_tell one.now other.now ≡ true }
         ensures { result ≡ edge_cmp (edge_told self.now one.now) (edge_told self.now other.now) }
     {
         one.lead
@@ -163,7 +163,7 @@ impl Rows {
     fn compare(&self, one: &PlacedEdge, other: &PlacedEdge) -> Ordering
         ensures { result ≡ edge_cmp (edge_told self.now one.now) (edge_told self.now other.now) }
     {
-        if is_led(one, other) {
+        if leads_tell(one, other) {
             self.compare_leads(one, other)
         } else {
             self.compare_long(one, other)

@@ -1,10 +1,10 @@
 //! The rows of a graph, each map by number, and the numbers of edges and audiences.
-ghost use Rattle.std.specs.Prelude.{◌≡◌, ◌<◌, ◌^◌, true, None, Some, length, nat_eq, slice_get, IfOk, IfSome, OnOk, OnErr};
+ghost use Rattle.std.specs.Prelude.{◌≡◌, ℕ, ◌+◌, ◌<◌, ◌≤◌, ◌^◌, true, None, Some, length, nat_eq, slice_get, slice_index_or, IfOk, IfSome, OnOk, OnErr, if◌then◌else◌};
 ghost use Rattle.std.specs.Map.{keys_of, lookup};
 ghost use Rattle.indexmap.specs.IndexMap.{IsUnique};
 ghost use Rattle.uni_table.specs.Contents.{empty};
 ghost use Rattle.uni_table.specs.GraphRows.{contents_of, published_of, audience_named, last_at, IsRows, IsQuiet, IsNumbered, IsStateOf, IsCircleKnown, IsPlaceOf, IsIndexOf, Grows};
-ghost use Rattle.uni_table.specs.GraphKeys.{source_eq};
+ghost use Rattle.uni_table.specs.GraphKeys.{source_eq, is_noted_at};
 
 use super::numbers::{EdgeNo, EntityBefore, Node, Side, Slot, SlotState, Source};
 use super::touched::make_room;
@@ -57,9 +57,21 @@ fn add_key<K: Eq + Hash + Copy, V: Drop>(
     Ok(index as u32)
 }
 
-// Notes the number of a source at its id, where that is no larger than so many ids.
+// Fills a list up with 0 to a length, if it is shorter.
+fn fill_up(numbers: &mut Vec<u32>, len: usize) -> Result<(), AllocError>
+    ensures same { (place : ℕ) → slice_index_or numbers.new.items place 0 ≡ slice_index_or numbers.old.items place 0 }
+    ensures long { OnOk result (len ≤ length numbers.new.items) }
+{
+    if numbers.len() < len {
+        numbers.resize(len, 0)?;
+    }
+    Ok(())
+}
+
+// Notes the number of a source, counted from 1, at the id that is its key, where that is no larger than so many
+// ids.
 fn note_start(starts: &mut Vec<u32>, ids: usize, key: &Key, number: u32) -> Result<(), AllocError>
-    requires { number < 2 ^ 32 }
+    ensures { OnOk result ((place : ℕ) → slice_index_or starts.new.items place 0 ≡ (if is_noted_at ids key.now number place then number + 1 else slice_index_or starts.old.items place 0)) }
 {
     let Key::Id(id) = key else {
         return Ok(());
@@ -68,9 +80,7 @@ fn note_start(starts: &mut Vec<u32>, ids: usize, key: &Key, number: u32) -> Resu
     if place >= ids || number == u32::MAX {
         return Ok(());
     }
-    if starts.len() <= place {
-        starts.resize(place + 1, 0)?;
-    }
+    fill_up(starts, place + 1)?;
     starts[place] = number + 1;
     Ok(())
 }
@@ -116,7 +126,8 @@ impl Rows {
         ensures number { IfOk result (λ n. slice_get (keys_of self.new.sources.entries) n ≡ Some (record { type_no = type_no; key = key })) }
     {
         let number = add_key(&mut self.sources, Source { type_no, key }, 0)?;
-        note_start(&mut self.starts, self.ids.len(), &key, number)?;
+        // Without memory for the note the source is found by its hash.
+        let _is_noted = note_start(&mut self.starts, self.ids.len(), &key, number);
         Ok(number)
     }
 
