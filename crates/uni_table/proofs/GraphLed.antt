@@ -10,7 +10,7 @@ use Rattle.std.proofs.lemmas.Map.Entries.{length-keys_of}
 use Rattle.std.proofs.lemmas.Option.{slice_get_within}
 use Rattle.chained_rows.specs.Chains.{last_no}
 use Rattle.uni_base.specs.declared.entity.Rank.{Rank}
-use Rattle.uni_table.specs.GraphChanges.{IsLed, AddsMoved, AreAffected, moved_at, untouched_at, ranks_differ, ranks_of, no_ranks, rank_of, rank_differs, is_affected, is_changed, is_other}
+use Rattle.uni_table.specs.GraphChanges.{IsLed, IsLedByMoved, AreAffected, moved_at, untouched_at, ranks_differ, ranks_of, no_ranks, rank_of, rank_differs, is_affected, is_changed, is_other}
 use Rattle.uni_table.specs.GraphRows.{IsRows, entity_then_of, is_live, is_same, is_same_entity, has_at, next_at, last_at}
 use Rattle.uni_table.specs.declared.command.EntityRow.{EntityRow}
 use Rattle.uni_table.specs.declared.graph.numbers.Before.{Before}
@@ -86,7 +86,7 @@ led-added rows number place led =
     ap (option_and_then (λ e. if is_same e.1.before then Some place else None)) led.1 ∙ ap (λ b. if b then Some place else None) led.3
 
 -- the places of touched edges and of the others that reach ids with other ranks are those of all that are affected
-pub all-affected : (rows : Rows) → IsRows rows → (others : List ℕ) → AddsMoved rows rows.touched_ids.items [] others → AreAffected rows (others ++ rows.touched_edges.items)
+pub all-affected : (rows : Rows) → IsRows rows → (others : List ℕ) → ((place : ℕ) → IsLedByMoved rows rows.touched_ids.items place → Contains others place) → AreAffected rows (others ++ rows.touched_edges.items)
 all-affected rows kept others adds place e at is = by (is_same e.1.before) refl
   where
     touched : (number : ℕ) → moved_at rows number ≡ true → Contains rows.touched_ids.items number
@@ -102,5 +102,5 @@ all-affected rows kept others adds place e at is = by (is_same e.1.before) refl
         Contains-append_left others rows.touched_edges.items place
         (⊎_elim
         (λ changed. absurd (true≢false (sym same ∙ other-touched e.1.before e.1.state e.1.end changed)))
-        (λ led. adds place (inr (e.0.target, touched e.0.target led.1, led.1, (e, at, grind (arith, nat_tests), same))))
+        (λ led. adds place ((e.0.target, touched e.0.target led.1, led.1, (e, at, grind (arith, nat_tests), same))))
         (affected-cases rows e is))

@@ -49,3 +49,4 @@ mod TargetsOf
 pub mod TouchLaws
 pub mod TouchedRows
 mod Touching
+pub mod WalkedOnce

@@ -7,7 +7,7 @@ use Rattle.std.specs.Map.{keys_of}
 use Rattle.std.specs.Bool.{⊤}
 use Rattle.std.specs.Option.{option_and_then, option_to_list}
 use Rattle.chained_rows.proofs.Chains.{last_no-le}
-use Rattle.uni_table.specs.GraphChanges.{AddsMoved, IsLed, earlier_at, moved_at, moved_last_at, place_of, untouched_at}
+use Rattle.uni_table.specs.GraphChanges.{IsLed, IsLedByMoved, earlier_at, moved_at, moved_last_at, place_of, untouched_at}
 use Rattle.uni_table.specs.GraphRows.{IsRows, has_at, last_at, next_at, no_at}
 use Rattle.uni_table.specs.declared.graph.numbers.EdgeNo.{EdgeNo}
 use Rattle.uni_table.specs.declared.graph.numbers.Slot.{Slot}
@@ -138,8 +138,6 @@ module _ (rows : Rows) (kept : IsRows rows) where
                 let past : r < place = grind (arith, nat_tests) in
                 absurd (led-start rows kept number place led (omega (arith, last, past)))
 
-    -- and the untouched ones among those that it passes are what is to be added
-    pub adds-walked : (old : List ℕ) → AddsMoved rows numbers old (old ++ filter_map (untouched_at rows) walk)
-    adds-walked old place (inl there) = Contains-append_left old (filter_map (untouched_at rows) walk) place there
-    adds-walked old place (inr led) =
-        Contains-append_right old (filter_map (untouched_at rows) walk) place (picked-contains (untouched_at rows) walk place place (walked led.0 place led.1 led.2 led.3) (led-added rows led.0 place led.3))
+    -- and the untouched ones among those that it passes are those that are led to
+    pub whole-walked : (place : ℕ) → IsLedByMoved rows numbers place → Contains (filter_map (untouched_at rows) walk) place
+    whole-walked place led = picked-contains (untouched_at rows) walk place place (walked led.0 place led.1 led.2 led.3) (led-added rows led.0 place led.3)

@@ -25,7 +25,7 @@ pub nat_equiv : IsEquivalence nat_eq
 nat_equiv = subst IsEquivalence agree (eq_by_cmp_equiv nat_cmp_total)
 
 -- a number that is none of a list's may follow it
-apart-push : (places : List ℕ) (i : ℕ) → IsDistinct nat_eq places → (Contains places i → ⊥) → IsDistinct nat_eq (places ++ i ∷ [])
+pub apart-push : (places : List ℕ) (i : ℕ) → IsDistinct nat_eq places → (Contains places i → ⊥) → IsDistinct nat_eq (places ++ i ∷ [])
 apart-push places i apart none = IsDistinct-push nat_equiv places i apart (by (list_any (nat_eq i) places) refl)
   where
     by : (b : Bool) → list_any (nat_eq i) places ≡ b → list_any (nat_eq i) places ≡ false

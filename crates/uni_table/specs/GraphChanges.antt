@@ -1,5 +1,5 @@
 -- Which rows differ from what they were at the last publish.
-use Rattle.std.specs.Prelude.{ℕ, zero, suc, ◌≡◌, ◌⊎◌, Bool, true, false, not, ◌==◌, ◌||◌, List, Option, None, Some, is_some, slice_get, if◌then◌else◌}
+use Rattle.std.specs.Prelude.{ℕ, zero, suc, ◌≡◌, Bool, true, false, not, ◌==◌, ◌||◌, List, Option, None, Some, is_some, slice_get, if◌then◌else◌}
 use Rattle.std.specs.List.{Contains}
 use Rattle.std.specs.Map.{keys_of}
 use Rattle.std.specs.Option.{option_and_then, option_map, option_map_or}
@@ -163,10 +163,6 @@ earlier_at rows place = option_and_then (λ e. place_of e.1.next_into) (slice_ge
 abbrev pub IsLedByMoved : Rows → List ℕ → ℕ → Type 0
 IsLedByMoved rows numbers place =
     (number : ℕ) × Contains numbers number × (moved_at rows number ≡ true) × IsLed rows number place
-
--- the places of a list are in another, with those of such edges
-abbrev pub AddsMoved : Rows → List ℕ → List ℕ → List ℕ → Type 0
-AddsMoved rows numbers old new = (place : ℕ) → Contains old place ⊎ IsLedByMoved rows numbers place → Contains new place
 
 -- all edges that are affected have their places there
 abbrev pub AreAffected : Rows → List ℕ → Type 0

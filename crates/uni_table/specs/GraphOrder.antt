@@ -1,13 +1,13 @@
 -- Edges by their places, with what they are ordered by.
-use Rattle.std.specs.Prelude.{ℕ, ◌≡◌, ◌+◌, ◌*◌, ◌/◌, ◌%◌, ◌==◌, ◌&&◌, ◌||◌, Bool, not, is_some, nat_lt, List, Option, None, Some, length, slice_get, if◌then◌else◌}
-use Rattle.std.specs.List.{filter_map}
+use Rattle.std.specs.Prelude.{ℕ, ◌≡◌, ◌++◌, true, nat_eq, ◌+◌, ◌*◌, ◌/◌, ◌%◌, ◌==◌, ◌&&◌, ◌||◌, Bool, not, is_some, nat_lt, List, Option, None, Some, length, slice_get, if◌then◌else◌}
+use Rattle.std.specs.List.{Contains, IsDistinct, filter_map}
 use Rattle.std.specs.Map.{keys_of}
 use Rattle.std.specs.Option.{option_and_then, option_map, option_map_or}
 use Rattle.uni_base.specs.declared.edge.EdgeRef.{EdgeRef}
 use Rattle.uni_base.specs.declared.edge.Key.{Key}
 use Rattle.uni_base.specs.declared.edge.Key.TheVariants.{Id, Word}
-use Rattle.uni_table.specs.GraphChanges.{change_of, is_affected, no_ranks, ranks_at}
-use Rattle.uni_table.specs.GraphRows.{edge_named, IsRows}
+use Rattle.uni_table.specs.GraphChanges.{change_of, is_affected, no_ranks, ranks_at, AreAffected, IsLedByMoved}
+use Rattle.uni_table.specs.GraphRows.{edge_named, is_live, is_same, IsRows}
 use Rattle.uni_table.specs.declared.change.EdgeChange.{EdgeChange}
 use Rattle.uni_table.specs.declared.graph.numbers.EdgeNo.{EdgeNo}
 use Rattle.uni_table.specs.declared.graph.numbers.Ranks.{Ranks}
@@ -56,12 +56,38 @@ edge_told rows edge = record { type_no = type_told edge; key = key_told (keys_of
 abbrev pub placed : EdgeNo → ℕ → EdgeRef → PlacedEdge
 placed number place edge = record { lead = lead_of edge.type_no edge.key; target = edge.target; source = number.source; place = place }
 
+abbrev pub placed_at : Rows → ℕ → EdgeNo → PlacedEdge
+placed_at rows place number = placed number place (edge_named (keys_of rows.sources.entries) (keys_of rows.ids.entries) number)
+
 -- the edge at a place, if it is affected
 abbrev pub affected_by : Rows → ℕ → EdgeNo × Slot → Option PlacedEdge
-affected_by rows place e = if is_affected rows e then Some (placed e.0 place (edge_named (keys_of rows.sources.entries) (keys_of rows.ids.entries) e.0)) else None
+affected_by rows place e = if is_affected rows e then Some (placed_at rows place e.0) else None
 
 abbrev pub affected_at : Rows → ℕ → Option PlacedEdge
 affected_at rows place = option_and_then (affected_by rows place) (slice_get rows.edges.entries place)
+
+-- the edge at a place, if one lives there and the batch has not touched it
+abbrev pub untouched_by : Rows → ℕ → EdgeNo × Slot → Option PlacedEdge
+untouched_by rows place e = if is_same e.1.before && is_live e.1.state then Some (placed_at rows place e.0) else None
+
+abbrev pub untouched_edge_at : Rows → ℕ → Option PlacedEdge
+untouched_edge_at rows place = option_and_then (untouched_by rows place) (slice_get rows.edges.entries place)
+
+-- a list grows by the edges that reach an id with another rank and that the batch has not touched, each once: those
+-- that are affected among the edges of some places
+pub record AddsMoved (rows : Rows) (old new : List PlacedEdge) : Type 0 where
+  pub places : List ℕ
+  pub apart : IsDistinct nat_eq places
+  pub untouched : (place : ℕ) → Contains places place → (e : EdgeNo × Slot) × (slice_get rows.edges.entries place ≡ Some e) × (is_same e.1.before ≡ true)
+  pub whole : (place : ℕ) → IsLedByMoved rows rows.touched_ids.items place → Contains places place
+  pub picked : new ≡ old ++ filter_map (affected_at rows) places
+
+-- a list has all edges that are affected, each once
+pub record AreAffectedEdges (rows : Rows) (edges : List PlacedEdge) : Type 0 where
+  pub places : List ℕ
+  pub apart : IsDistinct nat_eq places
+  pub whole : AreAffected rows places
+  pub picked : edges ≡ filter_map (affected_at rows) places
 
 -- what became of it, by what stands at its place
 abbrev pub placed_change : Rows → PlacedEdge → Option EdgeChange

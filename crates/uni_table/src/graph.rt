@@ -2,6 +2,7 @@ ghost use Rattle.std.specs.Prelude.{◌≡◌, ◌<◌, ◌⊎◌, ◌==◌, ◌
 ghost use Rattle.uni_table.specs.Added.{Adds};
 ghost use Rattle.uni_table.specs.Changes.{AreEdgeChanges, HasEntityChanges};
 
+mod affected;
 mod batches;
 pub mod changed_edges;
 mod changes;

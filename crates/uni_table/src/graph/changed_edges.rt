@@ -160,8 +160,7 @@ impl Rows {
         requires { IsRows self.now }
         ensures { IfOk result (λ changes. AreEdgeChanges (published_of self.now) (contents_of self.now) changes) }
     {
-        let places = self.affected(alloc)?;
-        let edges = self.affected_edges(alloc, places.as_slice())?;
+        let edges = self.affected_edges(alloc)?;
         let edges = self.in_order(edges);
         Ok(ChangedEdges {
             alloc,

@@ -4,10 +4,8 @@ ghost use Rattle.std.specs.List.{filter_map};
 ghost use Rattle.std.specs.Map.{keys_of};
 ghost use Rattle.std.specs.Option.{option_to_list};
 ghost use Rattle.uni_base.specs.EdgeOrder.{edge_cmp};
-ghost use Rattle.uni_table.specs.GraphOrder.{edge_told, key_told, short_no, short_id, leads_tell, lead_of, type_told, affected_at, standing_at};
-ghost use Rattle.uni_table.specs.GraphRows.{IsRows};
+ghost use Rattle.uni_table.specs.GraphOrder.{edge_told, key_told, short_no, short_id, leads_tell, lead_of, type_told, standing_at};
 
-use super::changes::{is_affected, push};
 use super::numbers::{EdgeNo, Slot};
 use super::rows::Rows;
 use std::alloc::{AllocError, Global};
@@ -45,8 +43,8 @@ fn short_no(key: &Key) -> u64
     }
 }
 
-// A type and a key as one number.
-fn lead(type_no: u16, key: &Key) -> u64
+/// A type and a key as one number.
+pub(super) fn lead(type_no: u16, key: &Key) -> u64
     ensures { result ≡ lead_of type_no key.now }
 {
     u64::from(type_no) * SPAN + short_no(key)
@@ -168,44 +166,6 @@ impl Rows {
         } else {
             self.compare_long(one, other)
         }
-    }
-
-    // Adds the edge at a place to a list, if there is one that is affected.
-    fn add_affected_edge(&self, place: u32, edges: &mut Vec<PlacedEdge>) -> Result<(), AllocError>
-        requires { IsRows self.now }
-        ensures { OnOk result (edges.new.items ≡ edges.old.items ++ option_to_list (affected_at self.now place)) }
-    {
-        let Some((number, slot)) = self.edges.get_index(place as usize) else {
-            return Ok(());
-        };
-        if !is_affected(slot, self.ranks_at(number.target as usize)) {
-            return Ok(());
-        }
-        let named = self.edge_ref(*number);
-        let edge = PlacedEdge {
-            lead: lead(named.type_no, &named.key),
-            target: named.target,
-            source: number.source,
-            place,
-        };
-        push(edges, edge)
-    }
-
-    /// The edges at places that are affected, with what they are ordered by.
-    pub fn affected_edges(
-        &self,
-        alloc: Global,
-        places: &[u32],
-    ) -> Result<Vec<PlacedEdge>, AllocError>
-        requires { IsRows self.now }
-        ensures { IfOk result (λ edges. edges.items ≡ filter_map (affected_at self.now) places.now) }
-    {
-        let mut edges = Vec::with_capacity(alloc, places.len())?;
-        for place in places {
-            let place = *place;
-            self.add_affected_edge(place, &mut edges)?;
-        }
-        Ok(edges)
     }
 
     // What stands at the place of an edge, if there is such a place.
