@@ -8,3 +8,5 @@ pub mod Words
 pub mod Sources
 pub mod Combined
 pub mod Readers
+pub mod ShortTerms
+pub mod TermOrder

@@ -54,10 +54,11 @@ pub(crate) fn combined(
     let mut delta = Delta::new(alloc);
     let mut at = 0;
     for (term, spans) in directory.iter() {
-        let to = passed(changed, at, term);
+        let whole = term.term();
+        let to = passed(changed, at, &whole);
         front.put_terms(&mut delta, &changed[at..to])?;
         let span = puts_in(Some(*spans));
-        put_unchanged(&mut delta, changed, at, term, postings, span)?;
+        put_unchanged(&mut delta, changed, at, &whole, postings, span)?;
         at = to;
     }
     front.put_terms(&mut delta, &changed[at..changed.len()])?;

@@ -1,4 +1,4 @@
-ghost use Rattle.std.specs.Prelude.{◌≡◌, ◌≤◌, ◌||◌, IfOk, IfSome, OnOk, length, take};
+ghost use Rattle.std.specs.Prelude.{◌≡◌, ◌≤◌, ◌||◌, ◌++◌, ◌∷◌, [], IfOk, IfSome, OnOk, length, take};
 ghost use Rattle.layer_stack.specs.Combined.{is_among};
 ghost use Rattle.layer_stack.specs.Words.{IsWordFrom};
 ghost use Rattle.indexmap.specs.IndexMap.{insert_entry};
@@ -10,8 +10,9 @@ ghost use Rattle.layer_stack.specs.Readers.{AreBefore};
 
 use crate::TermKey;
 use crate::joined::{Joined, after, next};
+use crate::short_term::ShortTerm;
 use crate::term_spans::TermSpans;
-use crate::words::{is_passed, word_at};
+use crate::words::is_passed;
 use indexmap::IndexMap;
 use indexmap::map::Iter;
 use std::alloc::{AllocError, Global};
@@ -29,7 +30,7 @@ pub(crate) struct Span {
 /// The terms of a layer in their order, each with where its puts and its deletes stand.
 #[derive(Drop)]
 pub(crate) struct Directory {
-    spans: IndexMap<TermKey, TermSpans>,
+    spans: IndexMap<ShortTerm, TermSpans>,
 }
 
 impl Model for Directory {
@@ -62,10 +63,11 @@ impl Directory {
         let mut put = 0;
         let mut deleted = 0;
         while let Some(joined) = next(puts, put, deletes, deleted) {
-            add(&mut spans, &joined)?;
+            add(alloc, &mut spans, &joined)?;
             put = after(put, joined.puts);
             deleted = after(deleted, joined.deletes);
         }
+        spans.shrink_to_fit();
         Ok(Directory { spans })
     }
 
@@ -91,7 +93,7 @@ impl Directory {
     {
         while *at < self.spans.len() {
             let (found, spans) = self.spans.get_index(*at)?;
-            match found.cmp(term) {
+            match found.compare(term) {
                 Ordering::Less => *at += 1,
                 Ordering::Equal => return Some(*spans),
                 Ordering::Greater => return None,
@@ -101,7 +103,7 @@ impl Directory {
     }
 
     // The terms in their order, each with where its rows stand.
-    pub(crate) fn iter(&self) -> Iter<'_, TermKey, TermSpans>
+    pub(crate) fn iter(&self) -> Iter<'_, ShortTerm, TermSpans>
         ensures entries { result ≡ self.now }
         ensures is { IsDirectory self.now }
     {
@@ -113,7 +115,8 @@ impl Directory {
         ensures { OnOk result ((t : TermKey) → is_among t terms.new.items ≡ (is_among t terms.old.items || has_spans t self.now)) }
     {
         for (term, _spans) in self.iter() {
-            terms.push((*term, ()))?;
+            let term = term.term();
+            note_term(terms, term.type_no, term.key)?;
         }
         Ok(())
     }
@@ -130,29 +133,42 @@ impl Directory {
             .spans
             .partition_point(|term, _spans| is_passed(strict, &from, term));
         let (term, _spans) = self.spans.get_index(at)?;
-        word_at(term, type_no)
+        term.word_at(type_no)
     }
 }
 
 // Adds what two lists have at a term.
-fn add(spans: &mut IndexMap<TermKey, TermSpans>, joined: &Joined) -> Result<(), AllocError>
+fn add(
+    alloc: Global,
+    spans: &mut IndexMap<ShortTerm, TermSpans>,
+    joined: &Joined,
+) -> Result<(), AllocError>
     requires puts { IfSome joined.now.puts (λ s. (s.from ≤ u32.MAX) × (s.to ≤ u32.MAX)) }
     requires deletes { IfSome joined.now.deletes (λ s. (s.from ≤ u32.MAX) × (s.to ≤ u32.MAX)) }
     ensures { OnOk result (spans.new.entries ≡ insert_entry (eq_by_cmp term_cmp) spans.old.entries joined.now.term (record { puts = narrowed joined.now.puts; deletes = narrowed joined.now.deletes })) }
 {
     let found = TermSpans::of(joined.puts, joined.deletes);
-    note(spans, joined.term.type_no, joined.term.key, found)
+    note(alloc, spans, joined.term.type_no, joined.term.key, found)
 }
 
 fn note(
-    spans: &mut IndexMap<TermKey, TermSpans>,
+    alloc: Global,
+    spans: &mut IndexMap<ShortTerm, TermSpans>,
     type_no: u16,
     key: Key,
     found: TermSpans,
 ) -> Result<(), AllocError>
     ensures { OnOk result (spans.new.entries ≡ insert_entry (eq_by_cmp term_cmp) spans.old.entries (term_of type_no key) found) }
 {
-    spans.insert(TermKey { type_no, key }, found)?;
+    spans.insert(ShortTerm::of(alloc, type_no, key)?, found)?;
+    Ok(())
+}
+
+// Adds a term to a list.
+fn note_term(terms: &mut Vec<(TermKey, ())>, type_no: u16, key: Key) -> Result<(), AllocError>
+    ensures { OnOk result (terms.new.items ≡ terms.old.items ++ (term_of type_no key, tt) ∷ []) }
+{
+    terms.push((TermKey { type_no, key }, ()))?;
     Ok(())
 }
 

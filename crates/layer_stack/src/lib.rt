@@ -18,6 +18,7 @@ mod place;
 mod reader;
 mod runs;
 mod settle;
+mod short_term;
 mod stack;
 mod term_spans;
 #[cfg(test)]

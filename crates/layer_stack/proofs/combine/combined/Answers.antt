@@ -53,7 +53,7 @@ loop-term-preserved c =
     record {
       within = c.passed-to.ensures.1;
       front = c.put_terms.ensures.same ∙ c.loop-term.invariant.front;
-      has = subst (λ (d : PostingChanges). Has table (is_done term_cmp changed to (map deref_pair (c.loop-term.yielded ++ (c.in-Some.term, c.in-Some.spans) ∷ []))) d) (sym (c.in_ok-put_unchanged.ensures {u = tt}))
+      has = subst (λ (d : PostingChanges). Has table (is_done term_cmp changed to (map deref_pair (c.loop-term.yielded ++ (c.in-Some.term, c.in-Some.spans) ∷ []))) d) (sym (c.in_ok-put_unchanged.ensures {u = tt} ∙ ap (λ (t : TermKey). cond (is_among t changed) c1 (putting_list t own c1)) c.term-whole.ensures))
           (subst (λ (ss : List (TermKey × TermSpans)). Has table (is_done term_cmp changed to ss) (cond (is_among e.0 changed) c1 (putting_list e.0 own c1))) more
           (done_span table changed to rows e own c1 alone has));
     }

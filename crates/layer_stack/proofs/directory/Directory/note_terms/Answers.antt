@@ -1,4 +1,4 @@
-use Rattle.std.proofs.Common.{rules, ◌≡◌, ◌||◌, ◌∷◌, [], map, ap, ◌∙◌, sym}
+use Rattle.std.proofs.Common.{rules, ◌≡◌, ◌||◌, ◌++◌, ◌∷◌, [], map, ap, ◌∙◌, sym}
 use Rattle.std.specs.Map.Iter.{deref_pair}
 use Rattle.std.proofs.lemmas.List.{map-append}
 use Rattle.std.proofs.lemmas.Iterator.Consumers.{YieldsList-from_rest, YieldsList-end}
@@ -12,7 +12,7 @@ use Rattle.layer_stack.proofs.directory.Directory.note_terms.Goals as goal
 pub loop-term-preserved : goal.loop-term-preserved
 loop-term-preserved c t =
     let older = is_among t c.args.terms.now.items in let yielded = c.loop-term.yielded in
-    ap (is_among t) c.in_ok-push.ensures.items
+    ap (is_among t) (c.in_ok-note_term.ensures ∙ ap (λ (s : TermKey). c.loop-term.terms.items ++ (s, tt) ∷ []) c.term-term.ensures)
     ∙ note_more t c.loop-term.terms.items (map deref_pair yielded) (c.in-Some.term.now, c.in-Some._spans.now) older (c.loop-term.invariant t)
     ∙ ap (λ es. older || is_among t es) (sym (map-append deref_pair yielded ((c.in-Some.term, c.in-Some._spans) ∷ [])))
 

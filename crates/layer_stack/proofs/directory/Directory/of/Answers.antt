@@ -1,9 +1,9 @@
-use Rattle.std.proofs.Common.{rules, ◌≡◌, ℕ, List, None, slice_get, sym, subst}
+use Rattle.std.proofs.Common.{rules, ◌≡◌, ℕ, List, None, slice_get, sym, subst, ap, ◌∙◌}
 use Rattle.indexmap.specs.IndexMap.{insert_entry}
 use Rattle.std.specs.Ordering.{eq_by_cmp}
 use Rattle.layer_stack.specs.declared.place.TermKey.{TermKey}
 use Rattle.layer_stack.specs.declared.term_spans.TermSpans.{TermSpans}
-use Rattle.layer_stack.specs.Directories.{narrowed}
+use Rattle.layer_stack.specs.Directories.{narrowed, put_spans, delete_spans}
 use Rattle.layer_stack.specs.Places.{term_cmp}
 use Rattle.layer_stack.proofs.Directories.{IsJoined, place_after, joined_more, joined_all}
 use Rattle.layer_stack.proofs.directory.Directory.of.Goals as goal
@@ -22,9 +22,9 @@ loop-joined-preserved c =
 pub returns-clause-puts : goal.returns-clause-puts
 returns-clause-puts c =
     let none : slice_get c.args.puts.now c.loop-joined.put ≡ None = search rules in
-    joined_all c.args.puts.now c.loop-joined.put c.loop-joined.invariant.first_puts none
+    ap put_spans c.shrink_to_fit.ensures.entries ∙ joined_all c.args.puts.now c.loop-joined.put c.loop-joined.invariant.first_puts none
 
 pub returns-clause-deletes : goal.returns-clause-deletes
 returns-clause-deletes c =
     let none : slice_get c.args.deletes.now c.loop-joined.deleted ≡ None = search rules in
-    joined_all c.args.deletes.now c.loop-joined.deleted c.loop-joined.invariant.first_deletes none
+    ap delete_spans c.shrink_to_fit.ensures.entries ∙ joined_all c.args.deletes.now c.loop-joined.deleted c.loop-joined.invariant.first_deletes none

@@ -1,10 +1,7 @@
-use Rattle.std.proofs.Common.{rules, arith, length, None, ℕ, ◌≡◌, ◌==◌, ◌&&◌, List, Some, cond, [], ◌∷◌, refl, ap, ◌∙◌, sym}
+use Rattle.std.proofs.Common.{rules, arith, length, None, ◌≡◌, List, Some, cond, [], ◌∷◌, refl, ap, ◌∙◌}
 use Rattle.std.specs.Map.{lookup}
-use Rattle.std.proofs.lemmas.Bool.Decides.{nat_tests}
 use Rattle.std.specs.FinMap.{find}
-use Rattle.std.specs.Ordering.{is_eq, eq_by_cmp, nat_cmp}
-use Rattle.uni_base.specs.EdgeOrder.{key_cmp}
-use Rattle.layer_base.proofs.Sorted.{is_eq-then}
+use Rattle.std.specs.Ordering.{eq_by_cmp}
 use Rattle.layer_stack.specs.declared.place.TermKey.{TermKey}
 use Rattle.layer_stack.specs.declared.term_spans.TermSpans.{TermSpans}
 use Rattle.layer_stack.specs.Directories.{puts_in, deletes_in}
@@ -16,14 +13,8 @@ same_look_up : (t : TermKey) (es : List (TermKey × TermSpans)) → lookup (eq_b
 same_look_up t [] = refl
 same_look_up t (e ∷ es) = ap (cond (eq_by_cmp term_cmp t e.0) (Some e.1)) (same_look_up t es)
 
-same_number : (a b : ℕ) → (a == b) ≡ is_eq (nat_cmp a b)
-same_number a b = grind (arith, nat_tests)
-
-same_test : (t s : TermKey) → ((t.type_no == s.type_no) && eq_by_cmp key_cmp t.key s.key) ≡ eq_by_cmp term_cmp t s
-same_test t s = ap (λ b. b && eq_by_cmp key_cmp t.key s.key) (same_number t.type_no s.type_no) ∙ sym (is_eq-then (nat_cmp t.type_no s.type_no) (key_cmp t.key s.key))
-
-found_there : (t : TermKey) (es seen : List (TermKey × TermSpans)) → es ≡ seen → lookup (λ s. (t.type_no == s.type_no) && eq_by_cmp key_cmp t.key s.key) es ≡ find term_cmp t seen
-found_there t es seen same = (λ i. lookup (λ s. same_test t s i) es) ∙ same_look_up t es ∙ ap (find term_cmp t) same
+found_there : (t : TermKey) (es seen : List (TermKey × TermSpans)) → es ≡ seen → lookup (eq_by_cmp term_cmp t) es ≡ find term_cmp t seen
+found_there t es seen same = same_look_up t es ∙ ap (find term_cmp t) same
 
 none_there : (t : TermKey) (es seen : List (TermKey × TermSpans)) → es ≡ seen → length es ≡ 0 → None ≡ find term_cmp t seen
 none_there t [] seen same e = ap (find term_cmp t) same
