@@ -1,2 +1,3 @@
 mod Drawing
 pub mod Joined
+pub mod Pieces

@@ -1,1 +1,2 @@
 pub mod BenchScript
+pub mod Pieces

@@ -4,7 +4,9 @@
 mod draws;
 mod lines;
 mod script;
+mod source;
 #[cfg(test)]
 mod tests;
 
 pub use script::bench_script;
+pub use source::ScriptSource;

@@ -8,6 +8,7 @@ use Rattle.unicorn_round.specs.declared.round.RoundAnswers.{RoundAnswers}
 use Rattle.unicorn_round.specs.declared.stacks.StackCover.{StackCover}
 use Rattle.unicorn_round.specs.Ending.{IsEnded, covers_between}
 use Rattle.unicorn_round.specs.Marks.{StackName}
+use Rattle.unicorn_round.specs.Parted.{slots_in}
 use Rattle.unicorn_round.specs.Queues.{answers_at, shown_by}
 use Rattle.unicorn_round.specs.SchemaStacks.{AreStacks}
 use Rattle.unicorn_round.specs.Stacks.{due_untidied, tidy, tidy_answers}
@@ -28,7 +29,7 @@ module _ (schema : Declarations) (old mid : List StackCover) (items : List Item)
 pub is_ended : (made number : ℕ) (old mid new : List StackCover) (parts : Parts) (answers : RoundAnswers) (said : List Answer) (missed untidied : List StackName) (tidied : List Answer) (items : List Item) (told : List Answer)
     → number ≡ made → items ≡ parts.compactions → told ≡ answers.compacted → mid ≡ compacted_covers old items told
     → untidied ≡ due_untidied number missed mid → tidied ≡ tidy_answers number untidied mid → new ≡ map (tidy number untidied) mid
-    → said ≡ merged (shown_by number new) parts.slots.items answers.fed (answers_at answers.asked.items) answers.compacted ++ tidied
+    → said ≡ merged (shown_by number new) (slots_in parts) answers.fed (answers_at answers.asked.items) answers.compacted ++ tidied
     → IsEnded made old new parts answers said
 is_ended made number old mid new parts answers said missed untidied tidied items told counted its ans is left tells after says =
     let between : mid ≡ covers_between old parts answers = is ∙ (λ i. compacted_covers old (its i) (ans i)) in
@@ -37,5 +38,5 @@ is_ended made number old mid new parts answers said missed untidied tidied items
       untidied = untidied;
       due = left ∙ sym (due_again number missed mid) ∙ ap (λ us. due_untidied number us mid) (sym left) ∙ (λ i. due_untidied (counted i) untidied (between i));
       covers = after ∙ (λ i. map (tidy (counted i) untidied) (between i));
-      says = says ∙ (λ i. merged (shown_by (counted i) new) parts.slots.items answers.fed (answers_at answers.asked.items) answers.compacted ++ tidies i);
+      says = says ∙ (λ i. merged (shown_by (counted i) new) (slots_in parts) answers.fed (answers_at answers.asked.items) answers.compacted ++ tidies i);
     }

@@ -5,6 +5,7 @@ use Rattle.unicorn_round.specs.declared.parts.Parts.{Parts}
 use Rattle.unicorn_round.specs.declared.round.RoundAnswers.{RoundAnswers}
 use Rattle.unicorn_round.specs.declared.stacks.StackCover.{StackCover}
 use Rattle.unicorn_round.specs.Marks.{StackName}
+use Rattle.unicorn_round.specs.Parted.{slots_in}
 use Rattle.unicorn_round.specs.Queues.{answers_at, shown_by}
 use Rattle.unicorn_round.specs.Stacks.{due_untidied, tidy, tidy_answers}
 use Rattle.unicorn_round.specs.Weaving.{compacted_covers, merged}
@@ -19,4 +20,4 @@ pub record IsEnded (made : ℕ) (old new : List StackCover) (parts : Parts) (ans
   pub untidied : List StackName
   pub due : untidied ≡ due_untidied made untidied (covers_between old parts answers)
   pub covers : new ≡ map (tidy made untidied) (covers_between old parts answers)
-  pub says : said ≡ merged (shown_by made new) parts.slots.items answers.fed (answers_at answers.asked.items) answers.compacted ++ tidy_answers made untidied (covers_between old parts answers)
+  pub says : said ≡ merged (shown_by made new) (slots_in parts) answers.fed (answers_at answers.asked.items) answers.compacted ++ tidy_answers made untidied (covers_between old parts answers)

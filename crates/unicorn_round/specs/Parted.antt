@@ -4,6 +4,7 @@ use Rattle.std.specs.List.{filter_map}
 use Rattle.script_rounds.specs.declared.item.Item.{Item}
 use Rattle.script_rounds.specs.declared.item.Item.TheVariants.{Ask}
 use Rattle.unicorn_round.specs.declared.parts.Parts.{Parts}
+use Rattle.unicorn_round.specs.declared.slot.Slot.{Slot}
 use Rattle.unicorn_round.specs.Weaving.{ask_at, asks_at, compactions, feed_items, is_compaction, is_feed, slot_of}
 
 -- an `ask` is one of so many sessions
@@ -11,9 +12,17 @@ abbrev pub IsFor : ℕ → Item → Type 0
 IsFor sessions (Ask line session viewer limit query) = (1 ≤ session) × (session ≤ sessions)
 IsFor sessions item = ⊤
 
+-- the slots of all lines: where none is kept, all lines are the feeder's
+abbrev pub slots_by : List Slot → List Item → List Slot
+slots_by [] feed = map slot_of feed
+slots_by (slot ∷ slots) feed = slot ∷ slots
+
+abbrev pub slots_in : Parts → List Slot
+slots_in parts = slots_by parts.slots.items parts.feed
+
 -- parts are those of lines, among so many sessions
 pub record IsParted (sessions : ℕ) (items : List Item) (parts : Parts) : Type 0 where
-  pub slots : parts.slots.items ≡ map slot_of items
+  pub slots : slots_in parts ≡ map slot_of items
   pub feed : parts.feed ≡ feed_items items
   pub compactions : parts.compactions ≡ compactions items
   pub count : length parts.asks.items ≡ sessions

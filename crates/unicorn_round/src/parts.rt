@@ -1,7 +1,7 @@
 ghost use Rattle.std.specs.Prelude.{ℕ, ◌≡◌, ◌++◌, ◌∷◌, [], All, IfOk, List, OnOk, length, map, true};
 ghost use Rattle.std.specs.List.{list_all};
 ghost use Rattle.script_rounds.specs.declared.item.Item.{Item};
-ghost use Rattle.unicorn_round.specs.Parted.{AddsLine, IsFor, IsParted};
+ghost use Rattle.unicorn_round.specs.Parted.{slots_in, AddsLine, IsFor, IsParted};
 ghost use Rattle.unicorn_round.specs.Weaving.{is_feed, slot_of};
 
 use crate::slot::Slot;
@@ -12,6 +12,7 @@ use std::alloc::{AllocError, Global};
 /// The lines of a round, by who answers them, with the order of their answers.
 #[derive(Drop)]
 pub(crate) struct Parts {
+    /// none where all lines are the feeder's, whose slots are made of them when they are asked for
     pub slots: Vec<Slot>,
     pub feed: ItemList,
     pub asks: Vec<AskList>,
@@ -41,19 +42,29 @@ impl Parts {
         requires { list_all is_feed items ≡ true }
         ensures { IfOk result (IsParted sessions items) }
     {
-        let slots = slots_of(alloc, items.as_slice())?;
         let empty = Parts::new(alloc, sessions)?;
         Ok(Parts {
-            slots,
+            slots: empty.slots,
             feed: items,
             asks: empty.asks,
             compactions: empty.compactions,
         })
     }
 
+    /// The slots of all lines, in order.
+    pub(crate) fn into_slots(self, alloc: Global) -> Result<Vec<Slot>, AllocError>
+        ensures { IfOk result (λ slots. slots.items ≡ slots_in self) }
+    {
+        if self.slots.is_empty() {
+            return slots_of(alloc, self.feed.as_slice());
+        }
+        Ok(self.slots)
+    }
+
     // No lines.
     fn new(alloc: Global, sessions: u64) -> Result<Parts, AllocError>
-        ensures { IfOk result (IsParted sessions []) }
+        ensures parted { IfOk result (IsParted sessions []) }
+        ensures slots { IfOk result (λ parts. parts.slots.items ≡ []) }
     {
         let mut asks = Vec::new(alloc);
         for _ in 0..sessions {

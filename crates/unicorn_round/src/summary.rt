@@ -17,14 +17,14 @@ use crate::laws::counts_agree;
 use crate::script::answer_rounds;
 use crate::status::Status;
 use crate::write::write_all;
-use bench_script::bench_script;
+use bench_script::{ScriptSource, bench_script};
 use rack_aggregate::Gate;
 use replica_pick::Chooser;
 use script_rounds::ItemList;
 use std::alloc::{AllocError, Global};
 use std::sync::{Arc, Wait};
 use std::thread::Threads;
-use uni_base::{Limits, Sink, SureSink, SureSource, Text};
+use uni_base::{Limits, Sink, SureSink, Text};
 use uni_schema::Schema;
 
 /// Serves the script of a seed and so many people from memory, and writes what its answers come to: the mode
@@ -63,6 +63,16 @@ where
     }
 }
 
+// A source over the script.
+fn script_source(alloc: Global, seed: u32, people: u32) -> Result<ScriptSource, AllocError>
+    requires seed { (1 ≤ seed) × (seed ≤ 2147483646) }
+    requires people { (2 ≤ people) × (people ≤ 100000) }
+    ensures { IfOk result (λ source. source ≡ bench_text seed people) }
+{
+    let text = bench_script(alloc, seed, people)?;
+    ScriptSource::of(alloc, text.as_slice())
+}
+
 // What the answers of the script come to.
 fn count_script<R, C, G>(
     rt: &R,
@@ -83,9 +93,8 @@ where
     ensures { IfOk result (λ counts. counts ≡ counts_of_script (script_of standard_limits (bench_text seed people))) }
 {
     counts_agree();
-    let text = bench_script(alloc, seed, people)?;
     let limits = Limits::standard();
-    let mut source = SureSource::new(text);
+    let mut source = script_source(alloc, seed, people)?;
     let mut sink = SureSink::new();
     let counted = answer_rounds(
         alloc,

@@ -4,6 +4,7 @@ ghost use Rattle.std.specs.List.{All, AllByRecursion};
 ghost use Rattle.uni_schema.specs.Schema.{Declarations};
 ghost use Rattle.round_feed.specs.Seats.{HasCompacted, MayCompact};
 ghost use Rattle.unicorn_round.specs.Ending.{IsEnded};
+ghost use Rattle.unicorn_round.specs.Parted.{slots_in};
 ghost use Rattle.unicorn_round.specs.Queues.{answers_at, shown_by};
 ghost use Rattle.unicorn_round.specs.SchemaStacks.{AreStacks, IsStackOf};
 ghost use Rattle.unicorn_round.specs.Weaving.{merged};
@@ -73,12 +74,13 @@ fn put_together(
     tidied: Vec<Answer>,
 ) -> Result<AnswerList, AllocError>
     requires { made < 2 ^ 63 }
-    ensures { IfOk result (λ said. said ≡ merged (shown_by made stacks.now) parts.slots.items answers.fed (answers_at answers.asked.items) answers.compacted ++ tidied.items) }
+    ensures { IfOk result (λ said. said ≡ merged (shown_by made stacks.now) (slots_in parts) answers.fed (answers_at answers.asked.items) answers.compacted ++ tidied.items) }
 {
     let mut tidied = tidied;
     let mut said = Vec::new(alloc);
     let mut queues = Queues::of(alloc, answers)?;
-    add_slots(parts.slots, &mut queues, stacks, made, &mut said)?;
+    let slots = parts.into_slots(alloc)?;
+    add_slots(slots, &mut queues, stacks, made, &mut said)?;
     said.append(&mut tidied)?;
     Ok(AnswerList::from_vec(said))
 }

@@ -10,6 +10,6 @@ returns-in-Ok g c =
     let script = bench_text c.args.seed c.args.people in
     let limits = c.standard-limits.result in
     let after = c.answer_rounds-counted.new.source in
-    let from : c.new-source.result ≡ script = c.new-source.ensures ∙ c.in_ok-text.ensures {u = tt} in
+    let from : c.in_ok-source.source ≡ script = c.in_ok-source.ensures {u = tt} in
     let all = subst (λ bytes. ScriptAnswered limits counter_terms CounterStands (Some bytes) (Some after) None None c.in-Ok.counter c.in-Ok.field-0-1) from c.in-Ok.ensures.all in
     benched c.counts_agree.ensures limits script (Some after) None None c.in-Ok.counter c.in-Ok.field-0-1 c.standard-limits.ensures all

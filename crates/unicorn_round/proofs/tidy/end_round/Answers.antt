@@ -1,6 +1,7 @@
 use Rattle.std.proofs.Common.{◌≡◌, ◌++◌, arith, map, ap, ◌∙◌}
 use Rattle.version_catalog.specs.Seats.{settings_of}
 use Rattle.unicorn_round.specs.Ending.{IsEnded}
+use Rattle.unicorn_round.specs.Parted.{slots_in}
 use Rattle.unicorn_round.specs.Queues.{answers_at, shown_by}
 use Rattle.unicorn_round.specs.Stacks.{is_due, name_of, tidy, tidy_answers}
 use Rattle.unicorn_round.specs.Weaving.{merged}
@@ -53,7 +54,7 @@ returns-clause-ended g c =
     let tidied : c.answer_due.new.answers.items ≡ tidy_answers made names mid =
     c.in_ok-answer_due.ensures {u = tt} ∙ ap (λ ls. ls ++ tidy_answers made (map name_of c.as_slice-5.result.now) mid) c.new-tidied.ensures.items
     ∙ ap (λ us. tidy_answers made (map name_of us) mid) c.as_slice-5.ensures.value in
-    if_ok (λ said. said ≡ merged (shown_by made new) c.args.parts.slots.items answers.fed (answers_at answers.asked.items) answers.compacted ++ c.answer_due.new.answers.items)
+    if_ok (λ said. said ≡ merged (shown_by made new) (slots_in c.args.parts) answers.fed (answers_at answers.asked.items) answers.compacted ++ c.answer_due.new.answers.items)
     (IsEnded _ c.args.stacks.now new c.args.parts answers) c.put_together.result
     (λ said says.
     is_ended _ made c.args.stacks.now mid new c.args.parts answers said (map name_of c.as_slice-4.result.now) names c.answer_due.new.answers.items c.as_slice.result.now c.as_slice-2.result.now
