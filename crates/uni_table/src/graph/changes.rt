@@ -1,4 +1,4 @@
-//! Which ids and edges differ from what they were at the last publish, by their places.
+//! Which ids and ranks differ from what they were at the last publish, by their places.
 ghost use Rattle.std.specs.Prelude.{◌≡◌, ◌++◌, ◌∷◌, [], IfOk, OnOk};
 ghost use Rattle.std.specs.List.{filter_map};
 ghost use Rattle.std.specs.Option.{option_to_list};
