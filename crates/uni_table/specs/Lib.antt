@@ -14,5 +14,6 @@ pub mod Lists
 pub mod Ranked
 pub mod Refusals
 pub mod Shards
+pub mod ShortSources
 pub mod TableState
 pub mod Targets

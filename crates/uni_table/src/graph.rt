@@ -15,6 +15,7 @@ mod numbers;
 mod order;
 mod refuses;
 mod rows;
+mod short_source;
 mod touched;
 mod walks;
 

@@ -16,8 +16,9 @@ ghost use Rattle.uni_table.specs.GraphRows.{contents_of, published_of, written, 
 
 use super::entities::recount;
 use super::found::FoundEdge;
-use super::numbers::{Before, EdgeNo, Node, Side, Slot, SlotState, Source};
+use super::numbers::{Before, EdgeNo, Node, Side, Slot, SlotState};
 use super::rows::{MAX_ROWS, Rows};
+use super::short_source::ShortSource;
 use super::touched::{make_room, note_touched};
 use crate::{EdgeRow, FeedRefusal};
 use indexmap::IndexMap;
@@ -51,7 +52,7 @@ fn write_last_into(ids: &mut IndexMap<EntityId, Node>, index: usize, number: u32
 }
 
 // Writes the number of the last edge that starts at a type and key.
-fn write_last_from(sources: &mut IndexMap<Source, u32>, index: usize, number: u32)
+fn write_last_from(sources: &mut IndexMap<ShortSource, u32>, index: usize, number: u32)
     ensures { (source : Source) (last : ℕ) → slice_get sources.old.entries index ≡ Some (source, last) → sources.new.entries ≡ set_value_at sources.old.entries index number }
 {
     if let Some(last) = sources.get_index_mut(index) {

@@ -93,7 +93,7 @@ impl Rows {
         match edge.short_id() {
             Some(id) => Key::Id(id),
             None => match self.sources.get_index(edge.source as usize) {
-                Some((source, _)) => source.key,
+                Some((short, _)) => short.source().key,
                 None => Key::Id(edge.target),
             },
         }

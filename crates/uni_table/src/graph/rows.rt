@@ -7,6 +7,7 @@ ghost use Rattle.uni_table.specs.GraphRows.{contents_of, published_of, audience_
 ghost use Rattle.uni_table.specs.GraphKeys.{source_eq, is_noted_at};
 
 use super::numbers::{EdgeNo, EntityBefore, Node, Side, Slot, SlotState, Source};
+use super::short_source::ShortSource;
 use super::touched::make_room;
 use indexmap::IndexMap;
 use std::alloc::{AllocError, Global};
@@ -20,7 +21,7 @@ use uni_base::{Audience, EdgeRef, EntityId, Key};
 pub(crate) struct Rows {
     pub ids: IndexMap<EntityId, Node>,
     /// each type and key with the number of the last edge that starts there, gone or not, or 0
-    pub sources: IndexMap<Source, u32>,
+    pub sources: IndexMap<ShortSource, u32>,
     /// for an id, from 1 on, a number of a source that starts there, counted from 1, or 0: where to look first
     pub starts: Vec<u32>,
     pub edges: IndexMap<EdgeNo, Slot>,
@@ -37,7 +38,7 @@ pub(crate) struct Rows {
 pub(super) const MAX_ROWS: usize = 4_294_967_295;
 
 /// The index of a key that is none of a map, which is added with a value.
-fn add_key<K: Eq + Hash + Copy, V: Drop>(
+fn add_key<K: Eq + Hash + Drop, V: Drop>(
     map: &mut IndexMap<K, V>,
     key: K,
     value: V,
@@ -125,7 +126,8 @@ impl Rows {
         ensures ids { self.new.ids ≡ self.old.ids }
         ensures number { IfOk result (λ n. slice_get (keys_of self.new.sources.entries) n ≡ Some (record { type_no = type_no; key = key })) }
     {
-        let number = add_key(&mut self.sources, Source { type_no, key }, 0)?;
+        let source = ShortSource::of(*self.sources.allocator(), type_no, key)?;
+        let number = add_key(&mut self.sources, source, 0)?;
         // Without memory for the note the source is found by its hash.
         let _is_noted = note_start(&mut self.starts, self.ids.len(), &key, number);
         Ok(number)
@@ -185,7 +187,8 @@ impl Rows {
             SlotState::Public => Some(Audience::Public),
             SlotState::Only => Some(Audience::Only),
             SlotState::Circle(n) => {
-                let (source, _) = self.sources.get_index(n as usize)?;
+                let (short, _) = self.sources.get_index(n as usize)?;
+                let source = short.source();
                 Some(Audience::Circle(source.type_no, source.key))
             }
         }
@@ -215,7 +218,7 @@ impl Rows {
         }
         let index = (number - 1) as usize;
         let (known, _last) = self.sources.get_index(index)?;
-        if known == source { Some(index) } else { None }
+        if known.is(source) { Some(index) } else { None }
     }
 
     // The same of any source, by a hash.

@@ -31,7 +31,8 @@ impl Rows {
         requires target { number.target < length self.now.ids.entries }
         ensures { result ≡ edge_named (keys_of self.now.sources.entries) (keys_of self.now.ids.entries) number }
     {
-        let (source, _) = self.sources.get_index(number.source as usize).unwrap();
+        let (short, _) = self.sources.get_index(number.source as usize).unwrap();
+        let source = short.source();
         let (target, _) = self.ids.get_index(number.target as usize).unwrap();
         EdgeRef {
             type_no: source.type_no,
