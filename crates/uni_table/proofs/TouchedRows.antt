@@ -82,6 +82,10 @@ module _ {K V : Type 0} (same : V → Bool) where
     pub touched-free : (i : ℕ) (e : K × V) → slice_get es i ≡ Some e → same e.1 ≡ true → length places < room
     touched-free i e at is = omega (arith, t.counted, t.roomy, count-some es i e at is)
 
+    -- and not all rows are touched
+    pub touched-fewer : (i : ℕ) (e : K × V) → slice_get es i ≡ Some e → same e.1 ≡ true → length places < length es
+    touched-fewer i e at is = omega (arith, t.counted, count-some es i e at is)
+
     pub touched-few : length places ≤ length es
     touched-few = omega (arith, t.counted)
 

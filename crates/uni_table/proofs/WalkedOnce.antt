@@ -28,7 +28,7 @@ use Rattle.uni_table.proofs.GraphLed.{all-affected}
 use Rattle.uni_table.proofs.GraphPlaces.{entry-at, key-at, same-number}
 use Rattle.uni_table.proofs.GraphWalks.{IsAlong, along-passes, along-start, last_no-past}
 use Rattle.uni_table.proofs.SideBySide.{whole-walked}
-use Rattle.uni_table.proofs.TouchedRows.{apart-push}
+use Rattle.uni_table.proofs.TouchedRows.{apart-push, touched-fewer}
 
 -- numbers that are the same or not
 same_eq : (x y : ℕ) → x ≡ y → nat_eq x y ≡ true
@@ -265,6 +265,18 @@ module _ (rows : Rows) (kept : IsRows rows) where
         (u.1, subst (λ q. slice_get rows.edges.entries q ≡ Some u.1) u.0 u.2, u.3);
     whole = whole-walked rows kept rows.touched_ids.items walk closed;
     picked = is ∙ ap (λ es. old ++ es) (refilter walk each);
+  }
+
+  -- where all edges were touched there are none
+  pub adds-none : length rows.touched_edges.items ≡ length rows.edges.entries → (edges : List PlacedEdge) → AddsMoved rows edges edges
+  adds-none all edges = record {
+    places = [];
+    apart = distinct_nil nat_eq;
+    untouched = λ place there. absurd (omega (arith, there.1));
+    whole = λ place led.
+        let fewer = touched-fewer (λ (slot : Slot). is_same slot.before) rows.edges.entries rows.touched_edges.items rows.touched_edges.cap kept.touched_edges place led.3.0 led.3.1 led.3.3 in
+        absurd (omega (arith, all, fewer));
+    picked = sym (append-nil edges);
   }
 
   pub lasts-apart : IsDistinct nat_eq (filter_map (moved_last_at rows) rows.touched_ids.items)

@@ -8,7 +8,7 @@ ghost use Rattle.uni_table.specs.GraphRows.{IsRows};
 
 use super::changes::push;
 use super::numbers::{EdgeNo, Side, Slot};
-use super::order::{PlacedEdge, lead};
+use super::order::PlacedEdge;
 use super::rows::Rows;
 use std::alloc::{AllocError, Global};
 
@@ -67,10 +67,11 @@ impl Rows {
         requires target { number.target < length self.now.ids.entries }
         ensures { result ≡ placed_at self.now place number }
     {
-        let named = self.edge_ref(number);
+        let (short, _) = self.sources.get_index(number.source as usize).unwrap();
+        let (target, _) = self.ids.get_index(number.target as usize).unwrap();
         PlacedEdge {
-            lead: lead(named.type_no, &named.key),
-            target: named.target,
+            lead: short.lead(),
+            target: *target,
             source: number.source,
             place,
         }
@@ -90,13 +91,16 @@ impl Rows {
         push(edges, self.placed(*number, place))
     }
 
-    // Adds the edges that live, reach an id with another rank, and were not touched by the batch. All chains are
-    // walked side by side, a step of each in turn: a step waits for its row, and the waits of steps of other chains
-    // overlap.
+    // Adds the edges that live, reach an id with another rank, and were not touched by the batch. Where it touched
+    // all edges, as a first load does, there is none. All chains are walked side by side, a step of each in turn: a
+    // step waits for its row, and the waits of steps of other chains overlap.
     fn add_moved(&self, alloc: Global, edges: &mut Vec<PlacedEdge>) -> Result<(), AllocError>
         requires { IsRows self.now }
         ensures { OnOk result (AddsMoved self.now edges.old.items edges.new.items) }
     {
+        if self.touched_edges.len() == self.edges.len() {
+            return Ok(());
+        }
         let mut walk = self.moved_lasts(alloc)?;
         let mut at = 0;
         while at < walk.len() {

@@ -2,9 +2,11 @@
 ghost use Rattle.std.specs.Prelude.{◌≡◌, IfOk};
 ghost use Rattle.std.specs.Cmp.{partial_equiv_from_equiv};
 ghost use Rattle.uni_table.specs.GraphKeys.{source_eq};
+ghost use Rattle.uni_table.specs.GraphOrder.{lead_of};
 ghost use Rattle.uni_table.specs.ShortSources.{source_alike, source_equivalence, source_of, source_writes};
 
 use super::numbers::Source;
+use super::order::lead;
 use indexmap::Equivalent;
 use std::alloc::{AllocError, Global};
 use std::hash::{Hash, Hasher};
@@ -58,6 +60,16 @@ impl ShortSource {
                 type_no: *type_no,
                 key: Key::Word(**word),
             },
+        }
+    }
+
+    /// The type and the key as one number.
+    pub fn lead(&self) -> u64
+        ensures { result ≡ lead_of self.now.type_no self.now.key }
+    {
+        match &self.packed {
+            Packed::Id(type_no, id) => lead(*type_no, &Key::Id(*id)),
+            Packed::Word(type_no, word) => lead(*type_no, &Key::Word(**word)),
         }
     }
 

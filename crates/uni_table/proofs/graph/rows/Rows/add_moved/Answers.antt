@@ -1,11 +1,11 @@
-use Rattle.std.proofs.Common.{◌≡◌, ◌+◌, ◌<◌, ◌++◌, ℕ, suc, nat_eq, subst, sym, ◌∙◌, ap, append-nil, length, take, drop, arith}
+use Rattle.std.proofs.Common.{◌≡◌, ◌+◌, ◌<◌, ◌++◌, ℕ, suc, nat_eq, subst, sym, ◌∙◌, ap, append-nil, length, take, drop, arith, rules}
 use Rattle.std.specs.List.{Contains, IsDistinct, filter_map}
 use Rattle.std.specs.Option.{option_to_list}
 use Rattle.std.proofs.lemmas.List.{take_all}
 use Rattle.uni_table.specs.GraphChanges.{earlier_at, moved_last_at}
 use Rattle.uni_table.specs.GraphOrder.{untouched_edge_at}
 use Rattle.uni_table.proofs.SideBySide.{before-earlier, picked-on, weight, weight-step}
-use Rattle.uni_table.proofs.WalkedOnce.{adds-moved, lasts-apart, lasts-reached, walk-apart, walk-reached, IsReached}
+use Rattle.uni_table.proofs.WalkedOnce.{adds-moved, adds-none, lasts-apart, lasts-reached, walk-apart, walk-reached, IsReached}
 use Rattle.uni_table.proofs.graph.rows.Rows.add_moved.Goals as goal
 
 pub loop-at-init : goal.loop-at-init
@@ -50,3 +50,8 @@ returns c =
     adds-moved rows c.requires walk (c.loop-at.invariant.walked ∙ ap (λ w. filter_map (moved_last_at rows) rows.touched_ids.items ++ filter_map (earlier_at rows) w) whole)
     c.loop-at.invariant.apart c.loop-at.invariant.reached c.args.edges.now.items c.loop-at.edges.items
     (c.loop-at.invariant.added ∙ ap (λ w. c.args.edges.now.items ++ filter_map (untouched_edge_at rows) w) whole)
+
+pub returns-then-len : goal.returns-then-len
+returns-then-len c =
+    let all : length c.args.self.now.touched_edges.items ≡ length c.args.self.now.edges.entries = search rules in
+    adds-none c.args.self.now c.requires all c.args.edges.now.items
