@@ -190,8 +190,8 @@ impl ShardIndex {
         merge_front(alloc, &self.entities, count)
     }
 
-    // The layer at a place, over the same three parts.
-    fn layer(&self, i: usize) -> Result<ShardLayer, AllocError>
+    /// The layer at a place, counted from 0, over the same three parts.
+    pub fn layer(&self, i: usize) -> Result<ShardLayer, AllocError>
         requires { i < length self.now.0 }
         ensures { IfOk result (λ layer. slice_get self.now.0 i ≡ Some layer) }
     {

@@ -24,7 +24,7 @@ pub(crate) fn whole(
 {
     let index = shortest(version, vertical, shard, replica);
     if index.layers() == 1 {
-        shared(alloc, index)
+        shared(index)
     } else {
         merged(alloc, index)
     }
@@ -46,15 +46,13 @@ fn shortest(version: &Version, vertical: u16, shard: u32, replica: u32) -> &Shar
     shortest
 }
 
-// The layer of a stack that has no other, over the same postings and records.
-fn shared(alloc: Global, index: &ShardIndex) -> Result<ShardLayer, AllocError>
+// The layer of a stack that has no other.
+fn shared(index: &ShardIndex) -> Result<ShardLayer, AllocError>
     requires { length index.now.0 ≡ 1 }
     ensures { IfOk result (λ layer. layer_over no_rows layer ≡ stack_rows index.now.0) }
 {
-    let entities = index.merge_entities(alloc, 1)?;
-    let postings = Arc::try_clone(index.postings().layer(0))?;
-    let forward = Arc::try_clone(index.forward_stack().layer(0))?;
-    Ok(ShardLayer::join(Arc::new(alloc, entities)?, postings, forward))
+    let layer = index.layer(0)?;
+    Ok(layer)
 }
 
 // All layers of a stack as one.

@@ -72,7 +72,17 @@ fn batch(alloc: Global, opened: &mut Opened, noise: &mut Noise) -> Option<()> {
     Some(())
 }
 
-// Publishes a batch, and then may compact a stack. The newest version reads like one that no layers lead to.
+// The vertical, shard and replica of a stack, by its number among all five.
+fn stack_place(number: u64) -> (u16, u32, u32) {
+    if number < 4 {
+        (0, (number / 2) as u32, (number % 2) as u32)
+    } else {
+        (1, 0, 0)
+    }
+}
+
+// Publishes a batch, and then may compact a stack, which covers all that was published then. The newest version reads
+// like one that no layers lead to.
 fn is_published_well<R: Wait>(
     rt: &R,
     alloc: Global,
@@ -82,9 +92,10 @@ fn is_published_well<R: Wait>(
     batch(alloc, opened, noise)?;
     let number = opened.publish(rt)?.ok()?;
     if noise.below(2) == 0 {
-        let vertical = noise.below(2) as u16;
-        let shard = noise.below(2) as u32;
-        opened.compact(rt, vertical, shard, noise.below(2) as u32);
+        let (vertical, shard, replica) = stack_place(noise.below(5));
+        if opened.compact(rt, vertical, shard, replica)? != number {
+            return Some(false);
+        }
     }
     let made = opened.pin(rt)?.version().publishes();
     Some(made == number && is_newest_read(rt, alloc, opened)?)

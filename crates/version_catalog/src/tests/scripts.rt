@@ -4,7 +4,7 @@ ghost use Rattle.std.specs.Prelude.{◌≤◌, IfSome};
 use super::Opened;
 use super::alike::are_alike;
 use crate::PublishRefusal;
-use shard_index::Version;
+use shard_index::{ShardIndex, Version};
 use std::alloc::Global;
 use std::process::Abort;
 use std::sync::Wait;
@@ -16,20 +16,21 @@ use uni_base::{Fields, Limits, read_between};
 const ROWS: &[u8] =
     b"entity user 1 50;entity user 2 90;entity user 3 90;entity user 4 10;entity user 5 70;entity user 6 60;entity photo 101 5;entity photo 102 9;edge friend 1 2 public;edge friend 1 3 public;edge friend 1 5 public;edge lives rome 2 public;edge lives rome 4 public;edge lives rome 5 public;edge lives rome 6 public;edge tagged 2 101 public;edge tagged 3 102 public;edge tagged 5 102 public;edge shows 102 4 public;edge shows 102 1 public;publish 1";
 
-// `layers` and `entries` have a number for each stack, and `entries` are those of the newest layers.
+// `layers`, `newest` and `entries` have a number for each stack: its layers, the entries of the newest one, and
+// those of all.
 const COMPACTS: &[u8] =
-    b"layers 2 2 2 2 2;entries 7 7 6 6 6;publish 2;compact 0 0 1 2;layers 3 1 3 3 3;entries 0 7 0 0 0;publish 3;layers 4 2 4 4 4;compact 0 0 1 3;compact 1 0 0 3;layers 4 1 4 4 1;compact 0 0 0 3;compact 0 1 0 3;compact 0 1 1 3;layers 1 1 1 1 1;entries 7 7 6 6 6";
+    b"layers 2 2 2 2 2;newest 7 7 6 6 6;entries 7 7 6 6 6;publish 2;layers 3 3 3 3 3;newest 0 0 0 0 0;entries 7 7 6 6 6;compact 0 0 1 2;layers 3 1 3 3 3;newest 0 7 0 0 0;entries 7 7 6 6 6;publish 3;layers 4 2 4 4 4;newest 0 0 0 0 0;entries 7 7 6 6 6;compact 0 0 1 3;layers 4 1 4 4 4;entries 7 7 6 6 6;compact 1 0 0 3;layers 4 1 4 4 1;entries 7 7 6 6 6;compact 0 0 0 3;layers 1 1 4 4 1;entries 7 7 6 6 6;compact 0 1 0 3;layers 1 1 1 4 1;entries 7 7 6 6 6;compact 0 1 1 3;layers 1 1 1 1 1;newest 7 7 6 6 6;entries 7 7 6 6 6";
 
 const TIDIES: &[u8] =
-    b"publish 2;publish 3;publish 4;publish 5;publish 6;publish 7;publish 8;layers 9 9 9 9 9;compact 0 0 0 8;compact 0 1 0 8;compact 1 0 0 8;layers 1 9 1 9 1";
+    b"publish 2;layers 3 3 3 3 3;entries 7 7 6 6 6;publish 3;layers 4 4 4 4 4;entries 7 7 6 6 6;publish 4;layers 5 5 5 5 5;entries 7 7 6 6 6;publish 5;layers 6 6 6 6 6;entries 7 7 6 6 6;publish 6;layers 7 7 7 7 7;entries 7 7 6 6 6;publish 7;layers 8 8 8 8 8;entries 7 7 6 6 6;publish 8;layers 9 9 9 9 9;newest 0 0 0 0 0;entries 7 7 6 6 6;compact 0 0 0 8;layers 1 9 9 9 9;entries 7 7 6 6 6;compact 0 1 0 8;layers 1 9 1 9 9;entries 7 7 6 6 6;compact 1 0 0 8;layers 1 9 1 9 1;newest 7 0 6 0 6;entries 7 7 6 6 6";
 
 // All stacks at once, by so many workers, covers what is said.
 const TOGETHER: &[u8] =
-    b"publish 2;layers 3 3 3 3 3;all 1 2;layers 1 1 1 1 1;publish 3;publish 4;compact 0 0 1 4;layers 3 1 3 3 3;all 2 4;layers 1 1 1 1 1;entries 7 7 6 6 6;entity user 5 95;gone 3;publish 5;all 64 5;layers 1 1 1 1 1";
+    b"publish 2;layers 3 3 3 3 3;all 1 2;layers 1 1 1 1 1;publish 3;publish 4;compact 0 0 1 4;layers 3 1 3 3 3;all 2 4;layers 1 1 1 1 1;newest 7 7 6 6 6;entries 7 7 6 6 6;entity user 5 95;gone 3;publish 5;all 64 5;layers 1 1 1 1 1";
 
 // An edge is cut, an entity goes and comes at another rank, and edges end, with compactions in between.
 const CHANGES: &[u8] =
-    b"entity user 5 95;publish 2;entries 0 0 5 5 0;compact 0 1 1 2;gone 3;edge friend 1 4 public until 4;publish 3;entity user 3 9;edge friend 1 3 only;publish 4;compact 0 0 0 4;cut shows 102 4;publish 5;entries 0 0 0 0 1;publish 6";
+    b"entity user 5 95;publish 2;newest 0 0 5 5 0;entries 7 7 11 11 6;compact 0 1 1 2;layers 3 3 3 1 3;entries 7 7 11 6 6;gone 3;edge friend 1 4 public until 4;publish 3;entity user 3 9;edge friend 1 3 only;publish 4;compact 0 0 0 4;cut shows 102 4;publish 5;newest 0 0 0 0 1;publish 6";
 
 // The numbers of a step.
 fn number(fields: &mut Fields<'_>) -> Option<u64>
@@ -38,14 +39,31 @@ fn number(fields: &mut Fields<'_>) -> Option<u64>
     read_between(fields.next()?, 0, 1000)
 }
 
-// What is to be counted of a stack: its layers, or the entries of its newest one.
+// The entries of all layers of a stack.
+fn all_entries(stack: &ShardIndex) -> u64 {
+    let mut sum: u64 = 0;
+    for layer_no in 0..stack.layers() {
+        sum = sum.saturating_add(stack.layer_entries(layer_no));
+    }
+    sum
+}
+
+// What is to be counted of a stack: its layers, or the entries of all, or of its newest one.
 fn count(version: &Version, stack_no: usize, word: &[u8]) -> Option<u64> {
     let stack = version.stacks().get(stack_no)?;
     if word == b"layers".as_slice() {
         return Some(stack.layers() as u64);
     }
+    if word == b"entries".as_slice() {
+        return Some(all_entries(stack));
+    }
     let newest = stack.layers().checked_sub(1)?;
     Some(stack.layer_entries(newest))
+}
+
+// Whether a word says that stacks are counted.
+fn counts(word: &[u8]) -> bool {
+    word == b"layers".as_slice() || word == b"entries".as_slice() || word == b"newest".as_slice()
 }
 
 // Whether each stack has the count that is said.
@@ -108,7 +126,7 @@ fn is_made<R: Threads + Wait + Sync>(
         let are_compacted = are_compacted(rt, alloc, opened, &mut fields)?;
         return Some(are_compacted && is_newest_read(rt, alloc, opened)?);
     }
-    if word == b"layers".as_slice() || word == b"entries".as_slice() {
+    if counts(word) {
         return is_counted(opened.pin(rt)?.version(), word, &mut fields);
     }
     Some(opened.is_put(step))
@@ -166,7 +184,7 @@ fn a_publish_at_the_limit(rt: HostRuntime) -> Result<(), Fail> {
         &rt,
         alloc,
         &mut opened,
-        b"layers 3 3 3 3 3;entries 0 0 0 0 0",
+        b"layers 3 3 3 3 3;newest 0 0 0 0 0;entries 0 0 0 0 0",
     );
     assert!(rt; opened.compact(&rt, 1, 0, 0) == Some(2));
     Ok(())
