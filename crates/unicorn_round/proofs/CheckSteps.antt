@@ -28,7 +28,7 @@ use Rattle.unicorn_round.specs.Plain.{plain_mark}
 use Rattle.unicorn_round.specs.Records.{IsMarked}
 use Rattle.unicorn_round.specs.Stacks.{is_due, rows_of, tidy_answer, tidy_answers}
 use Rattle.unicorn_round.proofs.LineByLine.{none_done, one_more_done, marks_each, round_more_done}
-use Rattle.unicorn_round.proofs.ServingSteps.{lt_true, lt_false, after_lacking, reading_lacks}
+use Rattle.unicorn_round.proofs.SerialSteps.{lt_true, lt_false, after_lacking, reading_lacks}
 use Rattle.round_feed.proofs.Steps.{given-snoc}
 use Rattle.unicorn_round.proofs.Texts.{text_of-append, lines_of_answers-append}
 

@@ -8,7 +8,7 @@ use Rattle.uni_table.specs.declared.command.Command.{Command}
 use Rattle.uni_table.specs.Commands.{next, refuses}
 use Rattle.uni_table.specs.Contents.{Contents, empty}
 use Rattle.uni_table.specs.Journals.{after_commands, after_batch, after_batches, fold_of, first, accepts_commands, accepts_batches}
-use Rattle.unicorn_round.specs.Serving.{IsLater}
+use Rattle.unicorn_round.specs.SerialState.{IsLater}
 
 pub after_commands-snoc : (schema : Declarations) (table : Contents) (commands : List Command) (command : Command)
     → after_commands schema table (commands ++ command ∷ []) ≡ next schema (after_commands schema table commands) command

@@ -1,3 +1,4 @@
+mod AnswersTell
 mod AskedPlaces
 mod Benched
 mod Bounded
@@ -20,6 +21,7 @@ mod Numbers
 mod PartedLines
 mod PartedSteps
 mod PlainLegal
+mod PlainMayServe
 mod QueryFaults
 mod Queues
 mod RanSteps
@@ -30,14 +32,12 @@ mod Refusals
 mod Results
 mod RoundSeats
 mod RoundSteps
-mod Served
+mod SerialSteps
 mod ServedRounds
 mod ServedSteps
-mod ServingSteps
 mod StackLists
-mod Telling
-mod TextTelling
 mod Texts
+mod TextsTell
 mod Weaving
 mod Wholes
 mod Words

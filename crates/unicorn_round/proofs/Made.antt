@@ -11,7 +11,7 @@ use Rattle.unicorn_round.specs.Answers.{Standing, opening_standing, after_entry,
 use Rattle.round_feed.specs.Feeds.{Feed, made, fed_one}
 use Rattle.unicorn_round.specs.Laws.{RoundsMakeJournals}
 use Rattle.unicorn_round.specs.Marks.{Mark, lacks, Record}
-use Rattle.unicorn_round.specs.Serving.{IsFeed}
+use Rattle.unicorn_round.specs.SerialState.{IsFeed}
 use Rattle.unicorn_round.proofs.JournalSteps.{after_commands-snoc, accepts_commands-snoc, accepts_batches-snoc, fold_of-snoc}
 
 -- a feed that is one, whose journal is accepted and not too long

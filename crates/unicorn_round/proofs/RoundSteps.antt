@@ -11,7 +11,7 @@ use Rattle.unicorn_round.specs.Answers.{Standing, opening_standing, after_entry,
 use Rattle.round_feed.specs.Feeds.{Feed, made, fed_one}
 use Rattle.unicorn_round.specs.Marks.{Mark, lacks, RoundRecord}
 use Rattle.unicorn_round.specs.Plain.{plain_mark}
-use Rattle.unicorn_round.specs.Serving.{Serving, StandsFor, Answered, AllAnswered, RoundsAnswered, IsLater, filled, filled_at, opening_serving, serving_terms}
+use Rattle.unicorn_round.specs.SerialState.{SerialState, StandsFor, Answered, AllAnswered, RoundsAnswered, IsLater, filled, filled_at, opening_serial, serial_terms}
 use Rattle.unicorn_round.specs.Stacks.{is_due, tidy, tidy_answer, tidy_answers}
 use Rattle.unicorn_round.proofs.LineByLine.{none_done, one_more_done, marks_each, round_more_done}
 use Rattle.unicorn_round.proofs.Lists.{map_append}
@@ -46,11 +46,11 @@ pub entry_later : (terms : Terms) (s : Standing) (entry : Entry) (mark : Mark) �
 entry_later terms s entry mark = fed_later terms s.feed entry (lacks mark)
 
 -- no entry yet
-pub none_answered : (serving : Serving) (s : Standing) → StandsFor serving s → AllAnswered serving.terms s [] serving []
+pub none_answered : (serving : SerialState) (s : Standing) → StandsFor serving s → AllAnswered serving.terms s [] serving []
 none_answered serving s st = record { marks = []; done = none_done StandsFor serving.terms s serving st; answers = λ end later. refl }
 
 -- and one more
-pub one_more_answered : (terms : Terms) (s : Standing) (entries : List Entry) (entry : Entry) (mid after : Serving) (drafts more : List Answer) (a : AllAnswered terms s entries mid drafts)
+pub one_more_answered : (terms : Terms) (s : Standing) (entries : List Entry) (entry : Entry) (mid after : SerialState) (drafts more : List Answer) (a : AllAnswered terms s entries mid drafts)
     → Answered terms (after_entries terms s entries a.marks) entry after more → AllAnswered terms s (entries ++ entry ∷ []) after (drafts ++ more)
 one_more_answered terms s entries entry mid after drafts more a b = record {
   marks = a.marks ++ mark ∷ [];
@@ -92,7 +92,7 @@ tidied_filled end number (cover ∷ covers) = by (tidied_filled end number cover
     by rest false = rest
 
 -- nothing was answered yet
-pub no_rounds : (terms : Terms) → RoundsAnswered terms [] (opening_serving terms) []
+pub no_rounds : (terms : Terms) → RoundsAnswered terms [] (opening_serial terms) []
 no_rounds terms = record {
   is_under = refl;
   lacks = [];
@@ -105,14 +105,14 @@ no_rounds terms = record {
 }
 
 -- a round's end
-pub round_more : (terms : Terms) (rounds : List (List Entry)) (entries : List Entry) (before mid after : Serving) (drafts : List Answer) (text more : List ℕ)
+pub round_more : (terms : Terms) (rounds : List (List Entry)) (entries : List Entry) (before mid after : SerialState) (drafts : List Answer) (text more : List ℕ)
     (r : RoundsAnswered terms rounds before text) → AllAnswered terms (after_rounds terms (opening_standing terms) rounds r.told) entries mid drafts → mid.terms ≡ terms
     → after ≡ record mid { covers = map (tidy mid.publishes []) mid.covers }
     → more ≡ answers_text terms.schema (map (filled_at after.publishes after.covers) (drafts ++ tidy_answers mid.publishes [] mid.covers))
     → RoundsAnswered terms (rounds ++ entries ∷ []) after (text ++ more)
 round_more terms rounds entries before mid after drafts text more r a under is writes =
-    round_more_done StandsFor terms serving_terms answers_text (answers_text-append terms.schema) rounds entries a.marks before mid after text more r a.done
-    (ap (λ (n : Serving). n.terms) is ∙ under) ended_stands (writes ∙ ap (answers_text terms.schema) (filled_is ∙ round_is))
+    round_more_done StandsFor terms serial_terms answers_text (answers_text-append terms.schema) rounds entries a.marks before mid after text more r a.done
+    (ap (λ (n : SerialState). n.terms) is ∙ under) ended_stands (writes ∙ ap (answers_text terms.schema) (filled_is ∙ round_is))
   where
     now : Standing
     now = after_rounds terms (opening_standing terms) rounds r.told
@@ -142,7 +142,7 @@ round_more terms rounds entries before mid after drafts text more r a under is w
     filled_is : map (filled_at after.publishes after.covers) (drafts ++ tidy_answers mid.publishes [] mid.covers)
         ≡ map (filled (at_end one last)) (drafts ++ tidy_answers (made last.feed) [] last.covers)
     filled_is =
-        ap (λ (n : Serving). map (filled_at n.publishes n.covers) (drafts ++ tidy_answers mid.publishes [] mid.covers)) is
+        ap (λ (n : SerialState). map (filled_at n.publishes n.covers) (drafts ++ tidy_answers mid.publishes [] mid.covers)) is
         ∙ ap (λ n. map (filled_at n (map (tidy mid.publishes []) mid.covers)) (drafts ++ tidy_answers mid.publishes [] mid.covers)) at_last.publishes
         ∙ ap (λ cs. map (filled_at (made last.feed) cs) (drafts ++ tidy_answers mid.publishes [] mid.covers)) covers_are
         ∙ ap (λ n. map (filled (at_end one last)) (drafts ++ tidy_answers n [] mid.covers)) at_last.publishes

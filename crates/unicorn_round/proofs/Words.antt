@@ -12,7 +12,7 @@ use Rattle.unicorn_round.specs.Checking.{checked_line}
 use Rattle.unicorn_round.specs.Modes.{AnswersPlainly, Checks, Serves, nothing_more}
 use Rattle.unicorn_round.specs.Usage.{RanAs}
 use Rattle.unicorn_round.proofs.RanSteps.{none_answered, took_none}
-use Rattle.unicorn_round.proofs.Served.{plain_serves}
+use Rattle.unicorn_round.proofs.PlainMayServe.{plain_serves}
 use Rattle.unicorn_words.specs.declared.words.Mode.{Mode}
 use Rattle.unicorn_words.specs.declared.words.Mode.TheVariants.{Serve, Plain, Check, Bench}
 

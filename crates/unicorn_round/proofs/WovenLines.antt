@@ -26,7 +26,7 @@ use Rattle.unicorn_round.proofs.AskedPlaces.{ask_line, by_place, popped-same, re
 use Rattle.unicorn_round.proofs.FedAnswers.{AreAfter, IsOwn, Passes, own_is, others_are, fed_own, given_passes}
 use Rattle.unicorn_round.proofs.MarkReading.{feed_mark, feed_mark-none, first_mark, first_mark-some, replied_within, replied_between, reply_is, compacted_within, compacted_between, compacted_is, compacted_covers-more}
 use Rattle.unicorn_round.proofs.Numbers.{numbers_more, numbers_passing, numbers_failing, numbers_without, between_without, between_failing, within_without}
-use Rattle.unicorn_round.proofs.ServingSteps.{after_lacking, reading_lacks}
+use Rattle.unicorn_round.proofs.SerialSteps.{after_lacking, reading_lacks}
 
 -- the lines of a round by who answers them: the slots of all, the entries of the feed, the asks by place, and
 -- the compactions

@@ -5,12 +5,13 @@ use Rattle.std.specs.List.{list_any}
 use Rattle.uni_base.specs.Fields.{same}
 use Rattle.uni_schema.specs.Schema.{Declarations}
 use Rattle.reply_text.specs.declared.answer.Answer.{Answer}
+use Rattle.reply_text.specs.FirstWords.{first_words}
 use Rattle.reply_text.specs.Lines.{text_of}
 use Rattle.reply_text.specs.Printed.{first_word, lines_of_answers}
 
 -- whether a line is one that `check` writes, by its first word
 abbrev pub is_checked : List ℕ → Bool
-is_checked line = list_any (same (first_word line)) (codes "refused" ∷ codes "error" ∷ codes "memory" ∷ [])
+is_checked line = list_any (same (first_word line)) (first_words.refused ∷ first_words.error ∷ first_words.memory ∷ [])
 
 -- the lines of answers that it writes
 abbrev pub checked_lines : Declarations → List Answer → List (List ℕ)

@@ -24,11 +24,11 @@ pub mod Records
 pub mod SchemaStacks
 pub mod Seats
 pub mod SerialLaws
+pub mod SerialState
 pub mod Served
 pub mod ServedLaws
 pub mod Service
 pub mod ServiceLaws
-pub mod Serving
 pub mod Stacks
 pub mod Statuses
 pub mod Usage

@@ -4,9 +4,9 @@ use Rattle.std.proofs.Common.{refl}
 use Rattle.script_rounds.specs.Entries.{Entry}
 use Rattle.script_rounds.specs.Terms.{Terms}
 use Rattle.unicorn_round.specs.Modes.{AnswersPlainly}
-use Rattle.unicorn_round.specs.Serving.{Serving, RoundsAnswered}
+use Rattle.unicorn_round.specs.SerialState.{SerialState, RoundsAnswered}
 
-pub plain_claimed : (serving : Serving) (rounds : List (List Entry)) (text : List ℕ) → RoundsAnswered serving.terms rounds serving text → AnswersPlainly serving.terms rounds text
+pub plain_claimed : (serving : SerialState) (rounds : List (List Entry)) (text : List ℕ) → RoundsAnswered serving.terms rounds serving text → AnswersPlainly serving.terms rounds text
 plain_claimed serving rounds text a = record { lacks = a.lacks; told = a.told; is = a.is; is_record = a.is_record; writes = a.writes }
 
 pub plain_nothing : (of : Terms) → AnswersPlainly of [] []

@@ -65,7 +65,7 @@ impl Checker {
         Ok((self, text))
     }
 
-    // What is wrong with a line that counts, if anything is, or that memory was wanting for it.
+    // What is wrong with a line that counts, if anything is, or that it is out of memory.
     fn answer(&mut self, item: &Item) -> Option<Answer>
         requires { ItemFits self.old.terms item.now }
         ensures terms { self.new.terms ≡ self.old.terms }

@@ -48,7 +48,7 @@ impl Counter {
     }
 
     /// Serves a round and counts its answers. A round whose answers depend on how it runs, since it both publishes
-    /// and asks, is not counted, nor is one in which memory was wanting for a line: both end as want of memory does.
+    /// and asks, is not counted, nor is one in which a line ran out of memory: both end as being out of memory does.
     pub(crate) fn count<R: Threads + Wait + Sync, C: Chooser + Sync, G: Gate + Sync>(
         self,
         rt: &R,

@@ -113,7 +113,7 @@ fn with_ids(before: u128, hits: &[Hit]) -> Result<u128, AllocError>
     Ok(ids)
 }
 
-/// Whether an answer says that memory was wanting.
+/// Whether an answer says that it is out of memory.
 pub(crate) fn any_lacks(answers: &[Answer]) -> bool
     ensures { result ≡ list_any is_lacking answers.now }
 {

@@ -21,7 +21,7 @@ pub fn rounds_make_journals()
 {}
 
 /// What answers a script line by line is what a service may answer it by.
-#[tactic(auto, using(crate::proofs::Served::plain_may_serve))]
+#[tactic(auto, using(crate::proofs::PlainMayServe::plain_may_serve))]
 pub fn plain_may_serve()
     ensures { PlainMayServe }
 {}

@@ -10,7 +10,7 @@ ghost use Rattle.unicorn_round.specs.Completeness.{Completes};
 ghost use Rattle.unicorn_round.specs.Modes.{AnswersPlainly, Checks, Serves, nothing_more};
 ghost use Rattle.unicorn_round.specs.Outcome.{Ran};
 ghost use Rattle.unicorn_round.specs.Service.{IsReady, ServiceStands, service_terms};
-ghost use Rattle.unicorn_round.specs.Serving.{ServingStands, serving_terms};
+ghost use Rattle.unicorn_round.specs.SerialState.{SerialStands, serial_terms};
 ghost use Rattle.unicorn_round.specs.Statuses.{ReadFaultsFit, WriteFaultsFit};
 
 use crate::checker::Checker;
@@ -53,7 +53,7 @@ where
     ensures writes { WriteFaultsFit result (K.faults sink.old) (K.faults sink.new) }
 
     // A script within its limit under a header without fault, and no failed read or write: then all is
-    // answered, but for want of memory.
+    // answered, unless it runs out of memory.
     ensures complete { Completes limits (S.left source.old) (S.faults source.old) (S.faults source.new) (K.faults sink.old) (K.faults sink.new) result }
 {
     answer_script(
@@ -94,11 +94,11 @@ pub fn run_plain<S: Source, K: Sink>(
         sink,
         &|schema: Arc<Schema>| -> Result<Serial, AllocError>
             requires { IsWithinStandard limits }
-            ensures { IfOk result (IsOpened serving_terms Always ServingStands (under limits (arc_value schema))) }
+            ensures { IfOk result (IsOpened serial_terms Always SerialStands (under limits (arc_value schema))) }
         { Serial::new(alloc, limits, schema) },
         &|serial: Serial, items: ItemList| -> Result<(Serial, Text), AllocError>
-            requires { MayAnswer serving_terms Always ServingStands serial items }
-            ensures { IfOk result (λ t. HasAnswered serving_terms Always ServingStands serial items t.0 t.1) }
+            requires { MayAnswer serial_terms Always SerialStands serial items }
+            ensures { IfOk result (λ t. HasAnswered serial_terms Always SerialStands serial items t.0 t.1) }
         { serial.answer_round(items) },
     )
 }

@@ -54,7 +54,7 @@ where
     ensures writes { WriteFaultsFit result (K.faults sink.old) (K.faults sink.new) }
 
     // Words that are taken, a script within its limit under a header without fault, and no failed read or
-    // write: then all is answered, but for want of memory.
+    // write: then all is answered, unless it runs out of memory.
     ensures complete { is_taken (map string_bytes words.now) ≡ true
         → Completes standard_limits (S.left source.old) (S.faults source.old) (S.faults source.new) (K.faults sink.old) (K.faults sink.new) result }
 {

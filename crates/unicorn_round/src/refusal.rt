@@ -3,7 +3,7 @@
 pub(crate) enum PublishRefusal {
     /// As many were made as the limit allows.
     TooMany,
-    /// Memory was wanting.
+    /// Out of memory.
     Memory,
 }
 

@@ -9,7 +9,7 @@ ghost use Rattle.uni_table.specs.Commands.{IsDeclared, next, refuses};
 ghost use Rattle.uni_table.specs.Contents.{ended};
 ghost use Rattle.uni_table.specs.Journals.{after_commands};
 ghost use Rattle.unicorn_round.specs.Answers.{Standing};
-ghost use Rattle.unicorn_round.specs.Serving.{Answered, IsPending, StandsFor, opening_serving};
+ghost use Rattle.unicorn_round.specs.SerialState.{Answered, IsPending, StandsFor, opening_serial};
 ghost use Rattle.unicorn_round.specs.Stacks.{covering};
 
 mod round;
@@ -51,9 +51,9 @@ impl Model for Serial {
     ghost use Rattle.script_rounds.specs.Terms.{under};
     ghost use Rattle.uni_base.specs.StandardLimits.{IsWithinStandard};
     ghost use Rattle.uni_table.specs.Commands.{IsDeclared};
-    ghost use Rattle.unicorn_round.specs.Serving.{Serving};
+    ghost use Rattle.unicorn_round.specs.SerialState.{SerialState};
 
-    ghost Value = { Serving };
+    ghost Value = { SerialState };
 
     ghost view = { λ s. record {
       terms = under s.limits s.pending.schema;
@@ -76,7 +76,7 @@ impl Serial {
         schema: Arc<Schema>,
     ) -> Result<Serial, AllocError>
         requires { IsWithinStandard limits }
-        ensures { IfOk result (λ serial. serial ≡ opening_serving (under limits (arc_value schema))) }
+        ensures { IfOk result (λ serial. serial ≡ opening_serial (under limits (arc_value schema))) }
     {
         let stacks = Stacks::open(alloc, &schema)?;
         let shared = schema.clone()?;
@@ -250,14 +250,14 @@ impl Serial {
 impl Answering for Serial {
     ghost use Rattle.unicorn_round.specs.Answerer.{Always};
     ghost use Rattle.unicorn_round.specs.Modes.{AnswersPlainly, nothing_more};
-    ghost use Rattle.unicorn_round.specs.Serving.{ServingStands, serving_terms};
+    ghost use Rattle.unicorn_round.specs.SerialState.{SerialStands, serial_terms};
     ghost use Rattle.unicorn_round.specs.SerialLaws.{plain_claimed, plain_nothing};
 
-    ghost terms = { serving_terms };
+    ghost terms = { serial_terms };
 
     ghost ready = { Always };
 
-    ghost stands = { ServingStands };
+    ghost stands = { SerialStands };
 
     ghost claims = { AnswersPlainly };
 

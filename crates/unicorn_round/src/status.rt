@@ -16,7 +16,7 @@ pub enum Status {
     WriteFault,
     /// The source gave more bytes than the limit of a script.
     TooLong,
-    /// Memory was wanting.
+    /// Out of memory.
     Memory,
 }
 

@@ -4,7 +4,7 @@ ghost use Rattle.script_rounds.specs.Entries.{AreItemsOf, Entry};
 ghost use Rattle.script_rounds.specs.Fits.{ItemsFit};
 ghost use Rattle.unicorn_round.specs.Answerer.{Always, HasAnswered, MayAnswer};
 ghost use Rattle.unicorn_round.specs.Answers.{Standing};
-ghost use Rattle.unicorn_round.specs.Serving.{AllAnswered, ServingStands, StandsFor, filled_at, serving_terms};
+ghost use Rattle.unicorn_round.specs.SerialState.{AllAnswered, SerialStands, StandsFor, filled_at, serial_terms};
 ghost use Rattle.unicorn_round.specs.Stacks.{tidy, tidy_answers};
 
 use super::Serial;
@@ -16,8 +16,8 @@ use uni_base::Text;
 impl Serial {
     /// Answers a round: the state after it, and the text of its answers.
     pub(crate) fn answer_round(mut self, items: ItemList) -> Result<(Serial, Text), AllocError>
-        requires { MayAnswer serving_terms Always ServingStands self items }
-        ensures { IfOk result (λ t. HasAnswered serving_terms Always ServingStands self items t.0 t.1) }
+        requires { MayAnswer serial_terms Always SerialStands self items }
+        ensures { IfOk result (λ t. HasAnswered serial_terms Always SerialStands self items t.0 t.1) }
     {
         let mut answers = self.answer_items(items.as_slice())?;
         self.tidy(&mut answers)?;

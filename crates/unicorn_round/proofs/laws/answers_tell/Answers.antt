@@ -1,4 +1,4 @@
-use Rattle.unicorn_round.proofs.TextTelling.{answers_tell}
+use Rattle.unicorn_round.proofs.TextsTell.{answers_tell}
 use Rattle.unicorn_round.proofs.laws.answers_tell.Goals as goal
 
 pub returns : goal.returns

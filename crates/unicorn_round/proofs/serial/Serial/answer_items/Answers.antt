@@ -5,7 +5,7 @@ use Rattle.script_rounds.specs.Entries.{AreItemsOf}
 use Rattle.script_rounds.specs.Fits.{ItemFits}
 use Rattle.script_rounds.specs.Terms.{Terms}
 use Rattle.unicorn_round.specs.Answers.{after_entries}
-use Rattle.unicorn_round.specs.Serving.{Answered, AllAnswered}
+use Rattle.unicorn_round.specs.SerialState.{Answered, AllAnswered}
 use Rattle.unicorn_round.proofs.Items.{item_fits_at, no_entries, split_last}
 use Rattle.unicorn_round.proofs.RoundSteps.{none_answered, one_more_answered}
 use Rattle.unicorn_round.proofs.serial.Serial.answer_items.Goals as goal

@@ -2,7 +2,7 @@
 use Rattle.std.proofs.Common.{◌≡◌, List, take}
 use Rattle.script_rounds.specs.Entries.{Entry, AreItemsOf}
 use Rattle.unicorn_round.specs.Answers.{Standing}
-use Rattle.unicorn_round.specs.Serving.{AllAnswered, StandsFor}
+use Rattle.unicorn_round.specs.SerialState.{AllAnswered, StandsFor}
 use Rattle.unicorn_round.proofs.serial.Serial.answer_items.Given as goal
 
 abbrev pub invariant-loop-item : goal.invariant-loop-item

@@ -4,7 +4,7 @@ use Rattle.reply_text.specs.Printed.{answers_text}
 use Rattle.script_rounds.specs.Entries.{AreItemsOf}
 use Rattle.script_rounds.specs.Terms.{Terms}
 use Rattle.unicorn_round.specs.Answers.{after_rounds, opening_standing}
-use Rattle.unicorn_round.specs.Serving.{RoundsAnswered, filled_at}
+use Rattle.unicorn_round.specs.SerialState.{RoundsAnswered, filled_at}
 use Rattle.unicorn_round.specs.Stacks.{tidy_answers}
 use Rattle.unicorn_round.proofs.RoundSteps.{round_more}
 use Rattle.unicorn_round.proofs.serial.Serial.answer_round.Goals as goal

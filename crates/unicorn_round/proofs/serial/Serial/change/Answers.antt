@@ -1,4 +1,4 @@
-use Rattle.unicorn_round.proofs.ServingSteps.{change_taken}
+use Rattle.unicorn_round.proofs.SerialSteps.{change_taken}
 use Rattle.unicorn_round.proofs.serial.Serial.change.Goals as goal
 
 pub returns-in-Ok-clause-answered : goal.returns-in-Ok-clause-answered

@@ -1,8 +1,8 @@
 use Rattle.std.proofs.Common.{[], ◌∷◌, sym, subst}
 use Rattle.reply_text.specs.declared.answer.Answer.TheVariants.{Published}
 use Rattle.script_rounds.specs.Entries.{publish}
-use Rattle.unicorn_round.specs.Serving.{Answered}
-use Rattle.unicorn_round.proofs.ServingSteps.{is_pending, publish_made}
+use Rattle.unicorn_round.specs.SerialState.{Answered}
+use Rattle.unicorn_round.proofs.SerialSteps.{is_pending, publish_made}
 use Rattle.unicorn_round.proofs.serial.Serial.publish.Goals as goal
 
 pub returns-in-Ok-clause-answered : goal.returns-in-Ok-clause-answered

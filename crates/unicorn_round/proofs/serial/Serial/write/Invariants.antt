@@ -1,7 +1,7 @@
 -- the text so far
 use Rattle.std.proofs.Common.{◌≡◌, map}
 use Rattle.reply_text.specs.Printed.{answers_text}
-use Rattle.unicorn_round.specs.Serving.{filled_at}
+use Rattle.unicorn_round.specs.SerialState.{filled_at}
 use Rattle.unicorn_round.proofs.serial.Serial.write.Given as goal
 
 abbrev pub invariant-loop-answer : goal.invariant-loop-answer

@@ -25,7 +25,7 @@ use Rattle.unicorn_round.proofs.Elements.{all-both, all-wider}
 use Rattle.unicorn_round.proofs.Fitting.{IsFine, IsPrinted, IsSmall, Any, HasSmall, answers-pass, any-marks, printed-passes, small-marks, small-passes}
 use Rattle.unicorn_round.proofs.QueryFaults.{query-near}
 use Rattle.unicorn_round.proofs.Ranges.{HasWhole, IsInRange, all-range, all-whole, rise-below}
-use Rattle.unicorn_round.proofs.Telling.{heads_tell}
+use Rattle.unicorn_round.proofs.AnswersTell.{heads_tell}
 use Rattle.unicorn_round.proofs.Wholes.{unbroken-append}
 
 words-unbroken : (all : List Answer) → AllByRecursion (λ answer. AreUnbroken (words_of answer)) all → AreUnbroken (flat_map words_of all)

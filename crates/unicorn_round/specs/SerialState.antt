@@ -19,7 +19,7 @@ use Rattle.unicorn_round.specs.Stacks.{opening_stacks, rows_of}
 
 -- where an answering line by line stands: the table with what is pending, the pending batch, the table of
 -- the last version with its number, and what each stack covers
-pub record Serving : Type 0 where
+pub record SerialState : Type 0 where
   pub terms : Terms
   pub pending : Contents
   pub batch : List Command
@@ -27,11 +27,11 @@ pub record Serving : Type 0 where
   pub publishes : ℕ
   pub covers : List StackCover
 
-abbrev pub opening_serving : Terms → Serving
-opening_serving terms = record { terms = terms; pending = empty; batch = []; published = empty; publishes = 0; covers = opening_stacks terms.schema }
+abbrev pub opening_serial : Terms → SerialState
+opening_serial terms = record { terms = terms; pending = empty; batch = []; published = empty; publishes = 0; covers = opening_stacks terms.schema }
 
 -- what is pending is the last version with the pending batch
-abbrev pub IsPending : Serving → Type 0
+abbrev pub IsPending : SerialState → Type 0
 IsPending serving = serving.pending ≡ after_commands serving.terms.schema serving.published serving.batch
 
 -- the table of a feed is that of its journal with the pending batch, no command of which is refused at its
@@ -41,7 +41,7 @@ pub record IsFeed (terms : Terms) (feed : Feed) : Type 0 where
   pub accepted : accepts_commands terms.schema terms.limits (fold_of terms.schema feed.journal) feed.batch ≡ true
 
 -- an answering stands for a place in a script
-pub record StandsFor (serving : Serving) (s : Standing) : Type 0 where
+pub record StandsFor (serving : SerialState) (s : Standing) : Type 0 where
   pub pending : serving.pending ≡ s.feed.table
   pub batch : serving.batch ≡ s.feed.batch
   pub published : serving.published ≡ fold_of serving.terms.schema s.feed.journal
@@ -64,7 +64,7 @@ IsLater before after = (more : List (List Command)) × (after ≡ before ++ more
 
 -- an entry was answered, at the publishes that were made before it or as one for which memory was wanting;
 -- whatever the round's end is, its answers are those of the entry
-pub record Answered (terms : Terms) (s : Standing) (entry : Entry) (after : Serving) (drafts : List Answer) : Type 0 where
+pub record Answered (terms : Terms) (s : Standing) (entry : Entry) (after : SerialState) (drafts : List Answer) : Type 0 where
   pub lacks : Bool
   pub marked : IsMarked entry (plain_mark (made s.feed) entry lacks)
   pub stands : StandsFor after (after_entry terms s entry (plain_mark (made s.feed) entry lacks))
@@ -72,20 +72,20 @@ pub record Answered (terms : Terms) (s : Standing) (entry : Entry) (after : Serv
       → map (filled end) drafts ≡ entry_answers terms (replies terms.schema) end s.feed entry (plain_mark (made s.feed) entry lacks)
 
 -- so were entries, one after the other
-pub record AllAnswered (terms : Terms) (s : Standing) (entries : List Entry) (after : Serving) (drafts : List Answer) : Type 0 where
+pub record AllAnswered (terms : Terms) (s : Standing) (entries : List Entry) (after : SerialState) (drafts : List Answer) : Type 0 where
   pub marks : List Mark
   pub done : EntriesDone StandsFor terms s entries marks after
   pub answers : (end : Standing) → IsLater (after_entries terms s entries marks).feed.journal end.feed.journal
       → map (filled end) drafts ≡ entries_answers terms (replies terms.schema) end s entries marks
 
 -- the limits and the schema of its script
-abbrev pub serving_terms : Serving → Terms
-serving_terms serving = serving.terms
+abbrev pub serial_terms : SerialState → Terms
+serial_terms serving = serving.terms
 
 -- rounds were answered line by line, and a text is that of their answers
-abbrev pub RoundsAnswered : Terms → List (List Entry) → Serving → List ℕ → Type 0
-RoundsAnswered = RoundsDone StandsFor serving_terms answers_text
+abbrev pub RoundsAnswered : Terms → List (List Entry) → SerialState → List ℕ → Type 0
+RoundsAnswered = RoundsDone StandsFor serial_terms answers_text
 
 -- it stands behind rounds, which a text answers
-abbrev pub ServingStands : Serving → List (List Entry) → List ℕ → Type 0
-ServingStands serving rounds text = RoundsAnswered serving.terms rounds serving text
+abbrev pub SerialStands : SerialState → List (List Entry) → List ℕ → Type 0
+SerialStands serving rounds text = RoundsAnswered serving.terms rounds serving text

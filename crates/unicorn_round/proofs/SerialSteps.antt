@@ -17,7 +17,7 @@ use Rattle.script_rounds.specs.Terms.{Terms}
 use Rattle.unicorn_round.specs.Answers.{Standing, after_entry}
 use Rattle.round_feed.specs.Feeds.{made, changed, published, publish_answers, refusal_answers, too_many_publishes}
 use Rattle.unicorn_round.specs.Marks.{lacking}
-use Rattle.unicorn_round.specs.Serving.{Serving, IsPending, StandsFor, Answered}
+use Rattle.unicorn_round.specs.SerialState.{SerialState, IsPending, StandsFor, Answered}
 use Rattle.unicorn_round.specs.Records.{IsMarked}
 use Rattle.unicorn_round.specs.Stacks.{covering}
 use Rattle.unicorn_round.proofs.JournalSteps.{after_commands-snoc, accepts_commands-snoc, fold_of-snoc, first-later}
@@ -29,7 +29,7 @@ pub lt_false : (a b : ℕ) → b ≤ a → nat_lt a b ≡ false
 lt_false a b above = grind (arith, nat_tests)
 
 -- an entry that has no effect
-stays : (serving : Serving) (s : Standing) → StandsFor serving s → StandsFor serving (record { feed = s.feed; covers = s.covers })
+stays : (serving : SerialState) (s : Standing) → StandsFor serving s → StandsFor serving (record { feed = s.feed; covers = s.covers })
 stays serving s st = record {
   pending = st.pending;
   batch = st.batch;
@@ -40,7 +40,7 @@ stays serving s st = record {
 }
 
 -- a change that is taken
-pub change_taken : (old new : Serving) (s : Standing) (line : ℕ) (command : Command) → StandsFor old s
+pub change_taken : (old new : SerialState) (s : Standing) (line : ℕ) (command : Command) → StandsFor old s
     → refuses old.terms.schema old.terms.limits old.pending command ≡ None
     → new ≡ record old { pending = next old.terms.schema old.pending command; batch = old.batch ++ command ∷ [] }
     → Answered old.terms s (change line command) new []
@@ -71,7 +71,7 @@ change_taken old new s line command st none is =
         ap (λ r. if is_some r then s.feed else record { journal = s.feed.journal; batch = s.feed.batch ++ command ∷ []; table = next old.terms.schema s.feed.table command }) here
 
 -- a change that is refused, with its code
-pub change_refused : (serving : Serving) (s : Standing) (line : ℕ) (command : Command) (refusal : FeedRefusal) (code : ℕ) → StandsFor serving s
+pub change_refused : (serving : SerialState) (s : Standing) (line : ℕ) (command : Command) (refusal : FeedRefusal) (code : ℕ) → StandsFor serving s
     → refuses serving.terms.schema serving.terms.limits serving.pending command ≡ Some refusal → code_of refusal ≡ Some code
     → Answered serving.terms s (change line command) serving (Refused line code ∷ [])
 change_refused serving s line command refusal code st some is = record {
@@ -108,7 +108,7 @@ after_lacking terms s (refused line code) = refl
 after_lacking terms s (fault line code) = refl
 after_lacking terms s (query_fault line code column) = refl
 
-pub lacking_answered : (serving : Serving) (s : Standing) (entry : Entry) → StandsFor serving s → IsMarked entry lacking
+pub lacking_answered : (serving : SerialState) (s : Standing) (entry : Entry) → StandsFor serving s → IsMarked entry lacking
     → Answered serving.terms s entry serving (Memory (line_of entry) ∷ [])
 lacking_answered serving s entry st able = record {
   lacks = true;
@@ -118,19 +118,19 @@ lacking_answered serving s entry st able = record {
 }
 
 -- a query that was read without memory
-pub unread_answered : (serving : Serving) (s : Standing) (entry : Entry) (line : ℕ) → StandsFor serving s → (reads_query entry ≡ true) × (line_of entry ≡ line)
+pub unread_answered : (serving : SerialState) (s : Standing) (entry : Entry) (line : ℕ) → StandsFor serving s → (reads_query entry ≡ true) × (line_of entry ≡ line)
     → Answered serving.terms s entry serving (Memory line ∷ [])
 unread_answered serving s entry line st is =
     subst (λ l. Answered serving.terms s entry serving (Memory l ∷ [])) is.1 (lacking_answered serving s entry st (reading_lacks entry is.0))
 
 -- what is pending at a place in a script is the last version with the pending batch
-pub is_pending : (serving : Serving) (s : Standing) → StandsFor serving s → IsPending serving
+pub is_pending : (serving : SerialState) (s : Standing) → StandsFor serving s → IsPending serving
 is_pending serving s st =
     st.pending ∙ st.feed.table ∙ ap (λ t. after_commands serving.terms.schema t s.feed.batch) (sym st.published)
     ∙ ap (λ b. after_commands serving.terms.schema serving.published b) (sym st.batch)
 
 -- a publish that makes a version
-pub publish_made : (old new : Serving) (s : Standing) (line : ℕ) → StandsFor old s → old.publishes < old.terms.limits.publishes
+pub publish_made : (old new : SerialState) (s : Standing) (line : ℕ) → StandsFor old s → old.publishes < old.terms.limits.publishes
     → new ≡ record old {
       pending = ended old.pending (old.publishes + 1);
       batch = [];
@@ -156,7 +156,7 @@ publish_made old new s line st fewer is =
     schema : Declarations
     schema = old.terms.schema
 
-    after : Serving
+    after : SerialState
     after = record old {
       pending = ended old.pending (old.publishes + 1);
       batch = [];
@@ -189,7 +189,7 @@ publish_made old new s line st fewer is =
     same = ap (λ t. ended t (old.publishes + 1)) (st.pending ∙ st.feed.table ∙ sym commands_are)
 
 -- a publish at the limit
-pub publish_refused : (serving : Serving) (s : Standing) (line : ℕ) → StandsFor serving s → serving.terms.limits.publishes ≤ serving.publishes
+pub publish_refused : (serving : SerialState) (s : Standing) (line : ℕ) → StandsFor serving s → serving.terms.limits.publishes ≤ serving.publishes
     → Answered serving.terms s (publish line) serving (Refused line too_many_publishes ∷ [])
 publish_refused serving s line st full = record {
   lacks = false;
@@ -208,7 +208,7 @@ publish_refused serving s line st full = record {
     answers_is = ap (λ b. if b then Published line (made s.feed + 1) ∷ [] else Refused line too_many_publishes ∷ []) room
 
 -- a stack that is compacted
-pub compact_answered : (old new : Serving) (s : Standing) (line vertical shard replica : ℕ) → StandsFor old s
+pub compact_answered : (old new : SerialState) (s : Standing) (line vertical shard replica : ℕ) → StandsFor old s
     → new ≡ record old { covers = covering vertical shard replica old.publishes old.covers }
     → Answered old.terms s (compact line vertical shard replica) new (Compacted line old.publishes ∷ [])
 compact_answered old new s line vertical shard replica st is =
@@ -227,7 +227,7 @@ compact_answered old new s line vertical shard replica st is =
     })
 
 -- a query that is answered over the last version
-pub ask_answered : (serving : Serving) (s : Standing) (line session viewer limit : ℕ) (query : Plan) → StandsFor serving s
+pub ask_answered : (serving : SerialState) (s : Standing) (line session viewer limit : ℕ) (query : Plan) → StandsFor serving s
     → Answered serving.terms s (ask line session viewer limit query) serving (Reply line (reply_of serving.terms.schema serving.published serving.publishes query viewer limit) ∷ [])
 ask_answered serving s line session viewer limit query st = record {
   lacks = false;
@@ -242,15 +242,15 @@ ask_answered serving s line session viewer limit query st = record {
     schema = serving.terms.schema
 
 -- a line that is answered by what it is
-pub stats_answered : (serving : Serving) (s : Standing) (line : ℕ) (rows : List StackRow) → StandsFor serving s → Answered serving.terms s (stats line) serving (Stats line 0 rows ∷ [])
+pub stats_answered : (serving : SerialState) (s : Standing) (line : ℕ) (rows : List StackRow) → StandsFor serving s → Answered serving.terms s (stats line) serving (Stats line 0 rows ∷ [])
 stats_answered serving s line rows st = record { lacks = false; marked = refl; stands = stays serving s st; answers = λ end later. refl }
 
-pub refused_answered : (serving : Serving) (s : Standing) (line code : ℕ) → StandsFor serving s → Answered serving.terms s (refused line code) serving (Refused line code ∷ [])
+pub refused_answered : (serving : SerialState) (s : Standing) (line code : ℕ) → StandsFor serving s → Answered serving.terms s (refused line code) serving (Refused line code ∷ [])
 refused_answered serving s line code st = record { lacks = false; marked = refl; stands = stays serving s st; answers = λ end later. refl }
 
-pub fault_answered : (serving : Serving) (s : Standing) (line code : ℕ) → StandsFor serving s → Answered serving.terms s (fault line code) serving (Fault line code ∷ [])
+pub fault_answered : (serving : SerialState) (s : Standing) (line code : ℕ) → StandsFor serving s → Answered serving.terms s (fault line code) serving (Fault line code ∷ [])
 fault_answered serving s line code st = record { lacks = false; marked = refl; stands = stays serving s st; answers = λ end later. refl }
 
-pub query_fault_answered : (serving : Serving) (s : Standing) (line code column : ℕ) → StandsFor serving s
+pub query_fault_answered : (serving : SerialState) (s : Standing) (line code column : ℕ) → StandsFor serving s
     → Answered serving.terms s (query_fault line code column) serving (QueryFault line code column ∷ [])
 query_fault_answered serving s line code column st = record { lacks = false; marked = tt; stands = stays serving s st; answers = λ end later. refl }
