@@ -14,7 +14,7 @@ use std::thread::Threads;
 use version_catalog::{Catalogue, Session};
 
 /// Answers the asks of a session one after the other, each over the newest version at its pin: by a reply, or
-/// by want of memory. The shards of a query are asked by at most as many threads as there are workers.
+/// by saying that it is out of memory. The shards of a query are asked by at most as many threads as there are workers.
 pub fn ask_session<R: Threads + Wait + Sync, C: Chooser + Sync, G: Gate + Sync>(
     rt: &R,
     alloc: Global,
