@@ -28,7 +28,7 @@ pub(crate) fn arrange(
 {
     runs.sort_by(|one, other| one.0.cmp(&other.0))?;
     let mut arrangement = Arrangement {
-        spans: Vec::new(alloc),
+        spans: Vec::with_capacity(alloc, runs.len())?,
         rows: Vec::with_capacity(alloc, keys.len())?,
     };
     let mut group = Vec::new(alloc);

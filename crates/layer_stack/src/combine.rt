@@ -18,29 +18,41 @@ use layer_base::{last_words, look_up_near};
 use posting_lists::PostingColumns;
 use std::alloc::{AllocError, Global};
 
-// The terms at which layers after the oldest one, up to a count, delete or put: in order, each once.
-pub(crate) fn changed_terms(
-    alloc: Global,
-    stack: &Stack,
-    count: usize,
-) -> Result<Vec<(TermKey, ())>, AllocError>
-    requires { (0 < count) × (count ≤ length stack.now.0) }
-    ensures { IfOk result (λ terms. AreChanged (section 1 count stack.now.0) terms.items) }
-{
-    let mut log = Vec::new(alloc);
-    for i in 1..count {
-        stack.layer(i).note_terms(&mut log)?;
+/// What layers of a stack change.
+#[derive(Drop)]
+pub(crate) struct Changed {
+    // The terms at which they delete or put, in order, each once.
+    pub(crate) terms: Vec<(TermKey, ())>,
+    // How many rows they add at most.
+    pub(crate) rows: usize,
+}
+
+impl Changed {
+    // What layers after the oldest one change, up to a count.
+    pub(crate) fn of(alloc: Global, stack: &Stack, count: usize) -> Result<Changed, AllocError>
+        requires { (0 < count) × (count ≤ length stack.now.0) }
+        ensures { IfOk result (λ changed. AreChanged (section 1 count stack.now.0) changed.terms.items) }
+    {
+        let mut log = Vec::new(alloc);
+        let mut rows = 0_usize;
+        for i in 1..count {
+            stack.layer(i).note_terms(&mut log)?;
+            rows = rows.saturating_add(stack.layer(i).entries() as usize);
+        }
+        let terms = last_words(log)?;
+        Ok(Changed { terms, rows })
     }
-    last_words(log)
 }
 
 // Puts what the first layers of a stack stand for. The directory and the postings are what the
-// oldest one puts, which stands alone under each term that is not among the changed ones.
+// oldest one puts, which stands alone under each term that is not among the changed ones. There is
+// room from the start for these postings and so many rows.
 pub(crate) fn combined(
     alloc: Global,
     stack: &Stack,
     count: usize,
     changed: &[(TermKey, ())],
+    rows: usize,
     directory: &Directory,
     postings: &PostingColumns,
 ) -> Result<Delta, AllocError>
@@ -51,7 +63,8 @@ pub(crate) fn combined(
     ensures { IfOk result (λ delta. delta ≡ putting_all (stack_table (take count stack.now.0))) }
 {
     let mut front = FrontReader::of(alloc, stack, count)?;
-    let mut delta = Delta::new(alloc);
+    let terms = directory.len().saturating_add(changed.len());
+    let mut delta = Delta::with_capacity(alloc, terms, postings.len().saturating_add(rows))?;
     let mut at = 0;
     for (term, spans) in directory.iter() {
         let whole = term.term();

@@ -1,4 +1,4 @@
-ghost use Rattle.std.specs.Prelude.{◌≡◌, OnOk, OnErr};
+ghost use Rattle.std.specs.Prelude.{◌≡◌, IfOk, OnOk, OnErr};
 ghost use Rattle.layer_stack.specs.Postings.{no_changes, deleting, putting, place_of};
 
 use crate::TermKey;
@@ -52,6 +52,18 @@ impl Delta {
             puts: Vec::new(alloc),
             postings: PostingColumns::new(alloc),
         }
+    }
+
+    /// No changes, with room for puts of some postings under some terms.
+    pub fn with_capacity(alloc: Global, terms: usize, postings: usize) -> Result<Delta, AllocError>
+        ensures { IfOk result (λ delta. delta ≡ no_changes) }
+    {
+        Ok(Delta {
+            deletes: Vec::new(alloc),
+            deleted: Vec::new(alloc),
+            puts: Vec::with_capacity(alloc, terms)?,
+            postings: PostingColumns::with_capacity(alloc, postings)?,
+        })
     }
 
     /// Deletes a posting. A second delete adds nothing.

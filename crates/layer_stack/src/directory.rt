@@ -71,6 +71,13 @@ impl Directory {
         Ok(Directory { spans })
     }
 
+    // How many terms there are.
+    pub(crate) fn len(&self) -> usize
+        ensures { result ≡ length self.now }
+    {
+        self.spans.len()
+    }
+
     // Where the rows of a term stand. None exactly where it has none. Where there are no terms at
     // all no hash is made.
     pub(crate) fn spans(&self, term: &TermKey) -> Option<TermSpans>

@@ -8,7 +8,7 @@ ghost use Rattle.layer_stack.specs.Postings.{postings_of, deletes_of, entries_of
 ghost use Rattle.layer_stack.specs.Spans.{told};
 ghost use Rattle.layer_stack.specs.Words.{has_term, IsWordFrom};
 
-use crate::combine::combined;
+use crate::combine::{Changed, combined};
 use crate::directory::{Directory, Span, keys_at};
 use crate::part::Part;
 use crate::reader::LayerReader;
@@ -123,25 +123,26 @@ impl Layer {
         self.directory.note_terms(terms)
     }
 
-    // Puts what the first layers of a stack stand for, of which this is the oldest one. The changed
-    // terms are those at which the newer ones of them delete or put.
+    // Puts what the first layers of a stack stand for, of which this is the oldest one. What is changed
+    // is what the newer ones of them change.
     pub(crate) fn combined(
         &self,
         alloc: Global,
         stack: &Stack,
         count: usize,
-        changed: &[(TermKey, ())],
+        changed: &Changed,
     ) -> Result<Delta, AllocError>
         requires oldest { slice_get stack.now.0 0 ≡ Some self.now }
         requires count { (0 < count) × (count ≤ length stack.now.0) }
-        requires changed { AreChanged (section 1 count stack.now.0) changed.now }
+        requires changed { AreChanged (section 1 count stack.now.0) changed.now.terms.items }
         ensures { IfOk result (λ delta. delta ≡ putting_all (stack_table (take count stack.now.0))) }
     {
         combined(
             alloc,
             stack,
             count,
-            changed,
+            &changed.terms,
+            changed.rows,
             &self.directory,
             &self.postings,
         )

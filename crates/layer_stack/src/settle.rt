@@ -58,7 +58,7 @@ fn pick_postings(
     requires { All (λ e. e.1 < length postings.now) rows.now }
     ensures { IfOk result (λ picked. picked ≡ map (posting_from postings.now) rows.now) }
 {
-    let mut picked = PostingColumns::new(alloc);
+    let mut picked = PostingColumns::with_capacity(alloc, rows.len())?;
     for (key, number) in rows {
         let audience = postings.posting(*number).audience;
         picked.push(Posting {

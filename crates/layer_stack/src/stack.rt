@@ -4,7 +4,7 @@ ghost use Rattle.std.specs.FinMap as finite;
 ghost use Rattle.layer_base.specs.Layers.{stack_table};
 ghost use Rattle.layer_stack.specs.Postings.{postings_of, place_of, putting_all};
 
-use crate::combine::changed_terms;
+use crate::combine::Changed;
 use crate::parts::Parts;
 use crate::{Delta, Layer, StackCursor, TermKey};
 use layer_base::SharedLayers;
@@ -107,7 +107,7 @@ impl Stack {
         if count == 0 {
             return Layer::build(alloc, Delta::new(alloc));
         }
-        let changed = changed_terms(alloc, self, count)?;
+        let changed = Changed::of(alloc, self, count)?;
         let delta = self.layer(0).combined(alloc, self, count, &changed)?;
         Layer::build(alloc, delta)
     }

@@ -1,4 +1,4 @@
-ghost use Rattle.std.specs.Prelude.{◌≡◌, ◌<◌, ◌++◌, ◌∷◌, [], length, OnOk, OnErr, Some, slice_get};
+ghost use Rattle.std.specs.Prelude.{◌≡◌, ◌<◌, ◌++◌, ◌∷◌, [], length, IfOk, OnOk, OnErr, Some, slice_get};
 
 use crate::circles::{CircleTable, StoredAudience};
 use std::alloc::{AllocError, Global};
@@ -33,6 +33,18 @@ impl AudienceColumn {
             stored: Vec::new(alloc),
             circles: CircleTable::new(alloc),
         }
+    }
+
+    pub(crate) fn with_capacity(
+        alloc: Global,
+        audiences: usize,
+    ) -> Result<AudienceColumn, AllocError>
+        ensures { IfOk result (λ column. column ≡ []) }
+    {
+        Ok(AudienceColumn {
+            stored: Vec::with_capacity(alloc, audiences)?,
+            circles: CircleTable::new(alloc),
+        })
     }
 
     pub(crate) fn len(&self) -> usize

@@ -1,4 +1,4 @@
-ghost use Rattle.std.specs.Prelude.{◌≡◌, ◌≤◌, ◌<◌, ◌+◌, ◌-◌, ◌*◌, ◌++◌, ◌∷◌, ◌==◌, [], length, take, drop, OnOk, OnErr, Some, slice_get};
+ghost use Rattle.std.specs.Prelude.{◌≡◌, ◌≤◌, ◌<◌, ◌+◌, ◌-◌, ◌*◌, ◌++◌, ◌∷◌, ◌==◌, [], length, take, drop, IfOk, OnOk, OnErr, Some, slice_get};
 ghost use Rattle.std.specs.Vec.{vec_len, vec_capacity};
 ghost use Rattle.posting_lists.specs.Postings.{keys_of, section};
 ghost use Rattle.posting_lists.specs.Search.{RisesWithin, IsFirstFrom, most_comparisons};
@@ -44,6 +44,17 @@ impl PostingColumns {
             lasts: Vec::new(alloc),
             audiences: AudienceColumn::new(alloc),
         }
+    }
+
+    /// No postings, with room for some.
+    pub fn with_capacity(alloc: Global, postings: usize) -> Result<PostingColumns, AllocError>
+        ensures { IfOk result (λ columns. columns ≡ []) }
+    {
+        Ok(PostingColumns {
+            keys: Vec::with_capacity(alloc, postings)?,
+            lasts: Vec::with_capacity(alloc, postings / BLOCK)?,
+            audiences: AudienceColumn::with_capacity(alloc, postings)?,
+        })
     }
 
     pub fn len(&self) -> usize

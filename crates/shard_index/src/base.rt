@@ -75,7 +75,7 @@ fn posting_layer(alloc: Global, table: &Table, held: &[Held]) -> Result<Layer, A
     requires { AreDeclared table.now.schema held.now }
     ensures { IfOk result (λ layer. layer ≡ putting_all (table_postings table.now held.now)) }
 {
-    let mut delta = Delta::new(alloc);
+    let mut delta = Delta::with_capacity(alloc, 0, held.len())?;
     for edge in held {
         if let Some((term, posting)) = posting_of(table, edge) {
             delta.put(term, posting)?;

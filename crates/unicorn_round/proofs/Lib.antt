@@ -3,6 +3,7 @@ mod AskedPlaces
 mod Benched
 mod Bounded
 mod CheckSteps
+mod CompactionsRaise
 mod Complete
 mod Counted
 mod Counting

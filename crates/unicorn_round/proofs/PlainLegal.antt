@@ -18,7 +18,7 @@ module _ (terms : Terms) where
   entry_grows : (s : Standing) (entry : Entry) (mark : Mark) → made s.feed ≤ made (after_entry terms s entry mark).feed
   entry_grows s entry mark = let later = entry_later terms s entry mark in omega (arith, ap length later.1, length-append s.feed.journal later.0)
 
-  entries_grow : (s : Standing) (entries : List Entry) (marks : List Mark) → made s.feed ≤ made (after_entries terms s entries marks).feed
+  pub entries_grow : (s : Standing) (entries : List Entry) (marks : List Mark) → made s.feed ≤ made (after_entries terms s entries marks).feed
   entries_grow s [] marks = omega arith
   entries_grow s (entry ∷ entries) [] = omega arith
   entries_grow s (entry ∷ entries) (mark ∷ marks) = omega (arith, entry_grows s entry mark, entries_grow (after_entry terms s entry mark) entries marks)

@@ -9,8 +9,10 @@ use Rattle.script_rounds.specs.Laws.{all_entries}
 use Rattle.script_rounds.specs.RoundReads.{Rise}
 use Rattle.script_rounds.specs.Rounds.{rounds_from}
 use Rattle.script_rounds.specs.Terms.{Terms}
-use Rattle.unicorn_round.specs.Answers.{answers, after_rounds, opening_standing}
+use Rattle.unicorn_round.specs.Answers.{answers, after_round, after_rounds, opening_standing}
+use Rattle.unicorn_round.specs.Covers.{RoundRaises}
 use Rattle.round_feed.specs.Feeds.{made}
+use Rattle.round_feed.specs.Steps.{Each}
 use Rattle.unicorn_round.specs.Legal.{Legal}
 use Rattle.unicorn_round.specs.Marks.{Record}
 use Rattle.unicorn_round.specs.Modes.{AnswersPlainly, Serves}
@@ -41,3 +43,10 @@ pub record RoundsMakeJournals : Type 0 where
 -- What answers rounds line by line is one of the texts that a service may answer them by.
 pub record PlainMayServe : Type 0 where
   pub serves : (terms : Terms) → (rounds : List (List Entry)) → (text : List ℕ) → AnswersPlainly terms rounds text → Serves terms rounds text
+
+-- In a legal record no compaction takes from what its stack covers, and none claims more than was made: what a stack covers
+-- behind one is the greater of its number and of what the stack covered.
+pub record CompactionsRaise : Type 0 where
+  pub raise :
+      (terms : Terms) → (rounds : List (List Entry)) → (told : Record) → IsRecord terms rounds told → Legal terms rounds told
+      → Each (after_round terms) (RoundRaises terms) (opening_standing terms) rounds told

@@ -7,6 +7,7 @@ pub mod CheckState
 pub mod Checking
 pub mod Completeness
 pub mod Counts
+pub mod Covers
 pub mod Ending
 pub mod Example
 pub mod Headers

@@ -1,6 +1,6 @@
 //! Laws about definitions, each the contract of a function that does nothing of its own.
 ghost use Rattle.unicorn_round.specs.Counts.{CountsAgree};
-ghost use Rattle.unicorn_round.specs.Laws.{AnswersTell, PlainMayServe, RoundsMakeJournals};
+ghost use Rattle.unicorn_round.specs.Laws.{AnswersTell, CompactionsRaise, PlainMayServe, RoundsMakeJournals};
 
 /// Equal answers are those of equal records, and so are answers of one text.
 pub fn answers_tell()
@@ -18,6 +18,12 @@ pub fn answers_tell()
 #[tactic(auto, using(crate::proofs::Made::rounds_make_journals))]
 pub fn rounds_make_journals()
     ensures { RoundsMakeJournals }
+{}
+
+/// In a legal record no compaction takes from what its stack covers, and none claims more than was made.
+#[tactic(auto, using(crate::proofs::CompactionsRaise::compactions_raise))]
+pub fn compactions_raise()
+    ensures { CompactionsRaise }
 {}
 
 /// What answers a script line by line is what a service may answer it by.

@@ -24,7 +24,7 @@ add_term-requires c =
     All-take (λ (r : TermKey × Span). (r.1.from < r.1.to) × (r.1.to ≤ length keys)) (c.loop-i.i + 1 - from) (drop from c.deref.result.now) (All-drop (λ (r : TermKey × Span). (r.1.from < r.1.to) × (r.1.to ≤ length keys)) from c.deref.result.now all)
 
 pub loop-i-init : goal.loop-i-init
-loop-i-init c = group_start c.sort_by.new.self.items c.args.keys.now c.new.result.items c.in_ok-with_capacity.field-0.items c.new.ensures.items c.in_ok-with_capacity.ensures.items
+loop-i-init c = group_start c.sort_by.new.self.items c.args.keys.now c.in_ok-with_capacity.field-0.items c.in_ok-with_capacity-2.field-0.items c.in_ok-with_capacity.ensures.items c.in_ok-with_capacity-2.ensures.items
 
 pub loop-i-preserved : goal.loop-i-preserved
 loop-i-preserved c =

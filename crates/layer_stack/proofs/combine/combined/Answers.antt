@@ -23,7 +23,7 @@ loop-term-init c =
     record {
       within = omega arith;
       front = c.in_ok-front.ensures {u = tt};
-      has = subst (λ (d : PostingChanges). Has table (is_done term_cmp {X = TermSpans} c.args.changed.now 0 []) d) (sym c.new-delta.ensures) (done_start table c.args.changed.now);
+      has = subst (λ (d : PostingChanges). Has table (is_done term_cmp {X = TermSpans} c.args.changed.now 0 []) d) (sym (c.in_ok-delta.ensures {u = tt})) (done_start table c.args.changed.now);
     }
 
 pub put_unchanged-requires-clause-within : goal.put_unchanged-requires-clause-within

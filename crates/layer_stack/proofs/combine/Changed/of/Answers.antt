@@ -1,17 +1,16 @@
 use Rattle.std.proofs.Common.{rules, arith, ◌≡◌, ◌||◌, T, List, ap, ◌∙◌, sym, subst}
 use Rattle.std.specs.FinMap as finite
 use Rattle.std.specs.FinMap.{is_sorted}
-use Rattle.std.proofs.lemmas.Result.{IfOk-weaker}
 use Rattle.posting_lists.specs.Postings.{section}
 use Rattle.layer_base.specs.Layers.{from_log}
 use Rattle.layer_stack.specs.declared.place.TermKey.{TermKey}
-use Rattle.layer_stack.specs.Combined.{is_among, is_changed, AreChanged}
+use Rattle.layer_stack.specs.Combined.{is_among, is_changed}
 use Rattle.layer_stack.specs.Places.{term_cmp}
 use Rattle.layer_stack.specs.Words.{has_term}
 use Rattle.layer_base.proofs.Among.{among_last}
 use Rattle.layer_stack.proofs.Combined.{changed_more}
 use Rattle.layer_stack.proofs.Order.{term_apart, term_total}
-use Rattle.layer_stack.proofs.combine.changed_terms.Goals as goal
+use Rattle.layer_stack.proofs.combine.Changed.of.Goals as goal
 
 pub loop-i-preserved : goal.loop-i-preserved
 loop-i-preserved c t =
@@ -27,8 +26,8 @@ pub returns : goal.returns
 returns c =
     let layers = c.args.stack.now.0 in let log = c.loop-i.log.items in
     let all : c.loop-i.i ≡ c.args.count = omega (arith, c.loop-i-test.false, c.loop-i.auto.i-end, c.requires) in
-    IfOk-weaker c.last_words.result (λ rows. rows.items ≡ finite.entries (from_log {R = term_cmp} log)) (λ rows. AreChanged (section 1 c.args.count layers) rows.items)
-    (λ rows is. record {
+    let is = c.in_ok-terms.ensures.last in
+    record {
       sorted = subst (λ (es : List (TermKey × Unit {0})). T (is_sorted term_cmp es)) (sym is) (finite.entries_sorted (from_log {R = term_cmp} log));
       exact = λ t. ap (is_among t) is ∙ among_last term_cmp term_total t log ∙ c.loop-i.invariant t ∙ ap (λ n. is_changed t (section 1 n layers)) all;
-    }) c.last_words.ensures.last
+    }
