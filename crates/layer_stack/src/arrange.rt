@@ -1,18 +1,17 @@
 ghost use Rattle.std.specs.Prelude.{◌≡◌, ◌≤◌, ◌++◌, ◌∷◌, [], length, IfOk, OnOk};
-ghost use Rattle.layer_stack.specs.Places.{term_of};
 ghost use Rattle.layer_stack.specs.Spans.{spanned};
 ghost use Rattle.layer_stack.specs.Runs.{AreWithin, AreArranged, left_of, numbered, span_at};
 
-use crate::TermKey;
 use crate::directory::{Span, is_same};
+use crate::short_term::ShortTerm;
 use layer_base::keep_last_words;
 use std::alloc::{AllocError, Global};
-use uni_base::{DocKey, Key};
+use uni_base::DocKey;
 
 /// Numbered keys in the order of places, and where those of each term stand.
 #[derive(Drop)]
 pub(crate) struct Arrangement {
-    pub(crate) spans: Vec<(TermKey, Span)>,
+    pub(crate) spans: Vec<(ShortTerm, Span)>,
     pub(crate) rows: Vec<(DocKey, usize)>,
 }
 
@@ -20,7 +19,7 @@ pub(crate) struct Arrangement {
 // runs are put in the order of their terms, and then the keys of each term in theirs.
 pub(crate) fn arrange(
     alloc: Global,
-    mut runs: Vec<(TermKey, Span)>,
+    mut runs: Vec<(ShortTerm, Span)>,
     keys: &[DocKey],
 ) -> Result<Arrangement, AllocError>
     requires { AreWithin (length keys.now) runs.items }
@@ -47,8 +46,8 @@ pub(crate) fn arrange(
 fn add_term(
     arrangement: &mut Arrangement,
     group: &mut Vec<(DocKey, usize)>,
-    term: &TermKey,
-    runs: &[(TermKey, Span)],
+    term: &ShortTerm,
+    runs: &[(ShortTerm, Span)],
     keys: &[DocKey],
 ) -> Result<(), AllocError>
     requires { AreWithin (length keys.now) runs.now }
@@ -63,12 +62,7 @@ fn add_term(
     let from = arrangement.rows.len();
     arrangement.rows.append(group)?;
     let to = arrangement.rows.len();
-    note(
-        &mut arrangement.spans,
-        term.type_no,
-        term.key,
-        Span { from, to },
-    )
+    note(&mut arrangement.spans, term, Span { from, to })
 }
 
 // Adds the numbered keys of a span.
@@ -86,14 +80,10 @@ fn add_numbers(
     Ok(())
 }
 
-fn note(
-    spans: &mut Vec<(TermKey, Span)>,
-    type_no: u16,
-    key: Key,
-    span: Span,
-) -> Result<(), AllocError>
-    ensures { OnOk result (spans.new.items ≡ spans.old.items ++ (term_of type_no key, span) ∷ []) }
+fn note(spans: &mut Vec<(ShortTerm, Span)>, term: &ShortTerm, span: Span) -> Result<(), AllocError>
+    ensures { OnOk result (spans.new.items ≡ spans.old.items ++ (term.now, span) ∷ []) }
 {
-    spans.push((TermKey { type_no, key }, span))?;
+    let term = term.copy(*spans.allocator())?;
+    spans.push((term, span))?;
     Ok(())
 }

@@ -4,6 +4,7 @@ ghost use Rattle.layer_stack.specs.Postings.{no_changes, deleting, putting, plac
 use crate::TermKey;
 use crate::directory::Span;
 use crate::runs::note_row;
+use crate::short_term::ShortTerm;
 use posting_lists::{Posting, PostingColumns};
 use std::alloc::{AllocError, Global};
 use std::marker::Model;
@@ -17,9 +18,9 @@ const MOST_NOTED: usize = 1 << 61;
 /// keeps the term once.
 #[derive(Drop)]
 pub struct Delta {
-    pub(crate) deletes: Vec<(TermKey, Span)>,
+    pub(crate) deletes: Vec<(ShortTerm, Span)>,
     pub(crate) deleted: Vec<DocKey>,
-    pub(crate) puts: Vec<(TermKey, Span)>,
+    pub(crate) puts: Vec<(ShortTerm, Span)>,
     pub(crate) postings: PostingColumns,
 }
 

@@ -51,8 +51,8 @@ impl Directory {
     // along both, and adds each term once.
     pub(crate) fn of(
         alloc: Global,
-        puts: &[(TermKey, Span)],
-        deletes: &[(TermKey, Span)],
+        puts: &[(ShortTerm, Span)],
+        deletes: &[(ShortTerm, Span)],
     ) -> Result<Directory, AllocError>
         requires puts { IsSpans u32.MAX puts.now }
         requires deletes { IsSpans u32.MAX deletes.now }
@@ -179,13 +179,10 @@ fn note_term(terms: &mut Vec<(TermKey, ())>, type_no: u16, key: Key) -> Result<(
     Ok(())
 }
 
-pub(crate) fn is_same(term: &TermKey, other: &TermKey) -> bool
+pub(crate) fn is_same(term: &ShortTerm, other: &ShortTerm) -> bool
     ensures { result ≡ eq_by_cmp term_cmp term.now other.now }
 {
-    match (&term.key, &other.key) {
-        (Key::Id(one), Key::Id(two)) => term.type_no == other.type_no && one == two,
-        _ => term == other,
-    }
+    term == other
 }
 
 // What a span tells of keys.

@@ -4,6 +4,7 @@ ghost use Rattle.layer_stack.specs.Directories.{IsNext};
 
 use crate::TermKey;
 use crate::directory::Span;
+use crate::short_term::ShortTerm;
 use std::cmp::Ordering;
 
 /// A term, and what each of two lists has at it.
@@ -17,9 +18,9 @@ pub(crate) struct Joined {
 // The lesser of the terms at places in two lists, and what each list has at it. None exactly where
 // nothing stands at either place.
 pub(crate) fn next(
-    puts: &[(TermKey, Span)],
+    puts: &[(ShortTerm, Span)],
     put: usize,
-    deletes: &[(TermKey, Span)],
+    deletes: &[(ShortTerm, Span)],
     deleted: usize,
 ) -> Option<Joined>
     ensures puts { IfSome result (λ n. IsNext n.term n.puts (slice_get puts.now put)) }
@@ -36,7 +37,7 @@ pub(crate) fn next(
 }
 
 // The lesser of the terms of two rows, and what each list has at it.
-fn lesser(put: &(TermKey, Span), deleted: &(TermKey, Span)) -> Joined
+fn lesser(put: &(ShortTerm, Span), deleted: &(ShortTerm, Span)) -> Joined
     ensures puts { IsNext result.term result.puts (Some put.now) }
     ensures deletes { IsNext result.term result.deletes (Some deleted.now) }
     ensures some { (is_some result.deletes || is_some result.puts) ≡ true }
@@ -44,7 +45,7 @@ fn lesser(put: &(TermKey, Span), deleted: &(TermKey, Span)) -> Joined
     match put.0.cmp(&deleted.0) {
         Ordering::Less => put_alone(&put.0, put.1),
         Ordering::Equal => Joined {
-            term: put.0,
+            term: put.0.term(),
             puts: Some(put.1),
             deletes: Some(deleted.1),
         },
@@ -53,22 +54,22 @@ fn lesser(put: &(TermKey, Span), deleted: &(TermKey, Span)) -> Joined
 }
 
 // A term that only puts.
-fn put_alone(term: &TermKey, span: Span) -> Joined
+fn put_alone(term: &ShortTerm, span: Span) -> Joined
     ensures { result ≡ record { term = term.now; puts = Some span; deletes = None } }
 {
     Joined {
-        term: *term,
+        term: term.term(),
         puts: Some(span),
         deletes: None,
     }
 }
 
 // A term that only deletes.
-fn delete_alone(term: &TermKey, span: Span) -> Joined
+fn delete_alone(term: &ShortTerm, span: Span) -> Joined
     ensures { result ≡ record { term = term.now; puts = None; deletes = Some span } }
 {
     Joined {
-        term: *term,
+        term: term.term(),
         puts: None,
         deletes: Some(span),
     }

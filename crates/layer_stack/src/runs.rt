@@ -5,14 +5,15 @@ ghost use Rattle.layer_stack.specs.Places.{term_cmp, term_of};
 ghost use Rattle.layer_stack.specs.Runs.{Adds, span_at, AreWithin, AreInTurn};
 
 use crate::TermKey;
-use crate::directory::{Span, is_same, part};
+use crate::directory::{Span, part};
+use crate::short_term::ShortTerm;
 use std::alloc::AllocError;
 use uni_base::{DocKey, Key};
 
 // Notes that the row at a place is of a term: it adds to the last run, where that is of the term and
 // ends there, or begins one.
 pub(crate) fn note_row(
-    runs: &mut Vec<(TermKey, Span)>,
+    runs: &mut Vec<(ShortTerm, Span)>,
     term: &TermKey,
     at: usize,
 ) -> Result<(), AllocError>
@@ -30,7 +31,7 @@ pub(crate) fn note_row(
 
 // Begins a run with the row at a place.
 fn begin_run(
-    runs: &mut Vec<(TermKey, Span)>,
+    runs: &mut Vec<(ShortTerm, Span)>,
     type_no: u16,
     key: Key,
     at: usize,
@@ -43,19 +44,20 @@ fn begin_run(
         from: at,
         to: at + 1,
     };
-    runs.push((TermKey { type_no, key }, span))?;
+    let term = ShortTerm::of(*runs.allocator(), type_no, key)?;
+    runs.push((term, span))?;
     Ok(())
 }
 
 // Whether a run goes on with the row of a term at a place.
-fn goes_on(run: &(TermKey, Span), term: &TermKey, at: usize) -> bool
+fn goes_on(run: &(ShortTerm, Span), term: &TermKey, at: usize) -> bool
     ensures { result ≡ ((run.now.1.to == at) && eq_by_cmp term_cmp run.now.0 term.now) }
 {
-    run.1.to == at && is_same(&run.0, term)
+    run.1.to == at && run.0.compare(term).is_eq()
 }
 
 // Whether the rows that runs tell are all rows in turn, in rank order in each run.
-pub(crate) fn are_in_turn(runs: &[(TermKey, Span)], keys: &[DocKey]) -> bool
+pub(crate) fn are_in_turn(runs: &[(ShortTerm, Span)], keys: &[DocKey]) -> bool
     requires { AreWithin (length keys.now) runs.now }
     ensures { IsTrue result → AreInTurn runs.now keys.now }
 {

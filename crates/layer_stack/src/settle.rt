@@ -4,10 +4,10 @@ ghost use Rattle.std.specs.List.{All};
 ghost use Rattle.layer_stack.specs.Spans.{put_rows, delete_rows};
 ghost use Rattle.layer_stack.specs.Runs.{AreWithin, AreSettled, posting_from};
 
-use crate::TermKey;
 use crate::arrange::arrange;
 use crate::directory::Span;
 use crate::runs::are_in_turn;
+use crate::short_term::ShortTerm;
 use layer_base::rises;
 use posting_lists::{Posting, PostingColumns};
 use std::alloc::{AllocError, Global};
@@ -17,9 +17,9 @@ use uni_base::DocKey;
 // came in that order stay as they are.
 pub(crate) fn settle_postings(
     alloc: Global,
-    runs: Vec<(TermKey, Span)>,
+    runs: Vec<(ShortTerm, Span)>,
     postings: PostingColumns,
-) -> Result<(Vec<(TermKey, Span)>, PostingColumns), AllocError>
+) -> Result<(Vec<(ShortTerm, Span)>, PostingColumns), AllocError>
     requires { AreWithin (length postings) runs.items }
     ensures { IfOk result (λ r. AreSettled (put_rows runs.items postings) (put_rows r.0.items r.1) r.0.items (length r.1)) }
 {
@@ -35,9 +35,9 @@ pub(crate) fn settle_postings(
 // order stay as they are.
 pub(crate) fn settle_keys(
     alloc: Global,
-    runs: Vec<(TermKey, Span)>,
+    runs: Vec<(ShortTerm, Span)>,
     keys: Vec<DocKey>,
-) -> Result<(Vec<(TermKey, Span)>, Vec<DocKey>), AllocError>
+) -> Result<(Vec<(ShortTerm, Span)>, Vec<DocKey>), AllocError>
     requires { AreWithin (length keys.items) runs.items }
     ensures { IfOk result (λ r. AreSettled (delete_rows runs.items keys.items) (delete_rows r.0.items r.1.items) r.0.items (length r.1.items)) }
 {

@@ -1,7 +1,7 @@
 //! A term in less memory.
-ghost use Rattle.std.specs.Prelude.{◌≡◌, IfOk};
-ghost use Rattle.std.specs.Cmp.{eq_by_cmp_equiv, partial_equiv_from_equiv};
-ghost use Rattle.std.specs.Ordering.{eq_by_cmp};
+ghost use Rattle.std.specs.Prelude.{◌≡◌, IfOk, refl};
+ghost use Rattle.std.specs.Cmp.{eq_by_cmp_equiv, partial_equiv_from_equiv, partial_order_from_agreeing_total};
+ghost use Rattle.std.specs.Ordering.{as_partial_cmp, eq_by_cmp};
 ghost use Rattle.layer_stack.specs.Places.{term_cmp, term_of};
 ghost use Rattle.layer_stack.specs.Spans.{word_at};
 ghost use Rattle.layer_stack.specs.TermOrder.{term_alike, term_total, term_writes};
@@ -14,7 +14,7 @@ use std::hash::{Hash, Hasher};
 use std::marker::Model;
 use uni_base::{EntityId, Key, Word};
 
-/// A term as a directory keeps it: an id beside its type, or a word in a box.
+/// A term as runs and directories keep it: an id beside its type, or a word in a box.
 #[derive(Drop)]
 enum Packed {
     Id(u16, EntityId),
@@ -44,6 +44,17 @@ impl ShortTerm {
         let packed = match key {
             Key::Id(id) => Packed::Id(type_no, id),
             Key::Word(word) => Packed::Word(type_no, Box::new(alloc, word)?),
+        };
+        Ok(ShortTerm { packed })
+    }
+
+    /// The same term once more.
+    pub(crate) fn copy(&self, alloc: Global) -> Result<ShortTerm, AllocError>
+        ensures { IfOk result (λ short. short ≡ self.now) }
+    {
+        let packed = match &self.packed {
+            Packed::Id(type_no, id) => Packed::Id(*type_no, *id),
+            Packed::Word(type_no, word) => Packed::Word(*type_no, Box::new(alloc, **word)?),
         };
         Ok(ShortTerm { packed })
     }
@@ -116,12 +127,54 @@ impl PartialEq for ShortTerm {
     ghost laws = { partial_equiv_from_equiv (eq_by_cmp_equiv term_total) };
 
     fn eq(&self, other: &ShortTerm) -> bool {
-        self.compare(&other.term()) == Ordering::Equal
+        self.cmp(other) == Ordering::Equal
     }
 }
 
 impl Eq for ShortTerm {
     ghost laws = { eq_by_cmp_equiv term_total };
+}
+
+/// As the terms themselves are ordered.
+impl Ord for ShortTerm {
+    ghost cmp = { term_cmp };
+
+    ghost total = { term_total };
+
+    ghost matches_partial_cmp = { λ _ _. refl };
+
+    ghost matches_eq = { λ _ _. refl };
+
+    fn cmp(&self, other: &ShortTerm) -> Ordering {
+        match (&self.packed, &other.packed) {
+            (Packed::Id(type_no, id), Packed::Id(of, other)) => match type_no.cmp(of) {
+                Ordering::Equal => id.cmp(other),
+                unequal => unequal,
+            },
+            (Packed::Id(type_no, _), Packed::Word(of, _)) => match type_no.cmp(of) {
+                Ordering::Equal => Ordering::Less,
+                unequal => unequal,
+            },
+            (Packed::Word(type_no, _), Packed::Id(of, _)) => match type_no.cmp(of) {
+                Ordering::Equal => Ordering::Greater,
+                unequal => unequal,
+            },
+            (Packed::Word(type_no, word), Packed::Word(of, other)) => match type_no.cmp(of) {
+                Ordering::Equal => (**word).cmp(&**other),
+                unequal => unequal,
+            },
+        }
+    }
+}
+
+impl PartialOrd for ShortTerm {
+    ghost partial_cmp = { as_partial_cmp term_cmp };
+
+    ghost laws = { partial_order_from_agreeing_total term_cmp term_total (λ _ _. refl) (λ _ _. refl) };
+
+    fn partial_cmp(&self, other: &ShortTerm) -> Option<Ordering> {
+        Some(self.cmp(other))
+    }
 }
 
 /// As the term itself is hashed.

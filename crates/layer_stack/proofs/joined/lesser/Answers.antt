@@ -12,7 +12,7 @@ pub returns-in-Equal-clause-deletes : goal.returns-in-Equal-clause-deletes
 returns-in-Equal-clause-deletes c =
     let put = c.args.put.now in let deleted = c.args.deleted.now in
     let same : term_cmp put.0 deleted.0 ≡ Equal = search rules in
-    ap (λ (t : TermKey). Some (t, deleted.1)) (sym (term_apart put.0 deleted.0 same))
+    ap (λ (t : TermKey). Some (t, deleted.1)) (sym (term_apart put.0 deleted.0 same) ∙ sym c.term.ensures)
 
 pub returns-in-Greater-clause-puts : goal.returns-in-Greater-clause-puts
 returns-in-Greater-clause-puts c =
