@@ -38,6 +38,7 @@ mod Placed
 pub mod Published
 mod RankedIn
 mod Reached
+mod Results
 mod ShardEdges
 pub mod Sharded
 mod SideBySide

@@ -14,6 +14,8 @@ pub mod Lists
 pub mod Ranked
 pub mod Refusals
 pub mod Shards
+pub mod ShortNodes
+pub mod ShortSlots
 pub mod ShortSources
 pub mod TableState
 pub mod Targets

@@ -15,6 +15,8 @@ mod numbers;
 mod order;
 mod refuses;
 mod rows;
+mod short_node;
+mod short_slot;
 mod short_source;
 mod touched;
 mod walks;

@@ -58,7 +58,7 @@ impl Rows {
         ensures { result ≡ earlier_at self.now place }
     {
         let (_, slot) = self.edges.get_index(place as usize)?;
-        place_of(slot.next_into)
+        place_of(slot.slot().next_into)
     }
 
     // An edge of two numbers with its place, and with what it is ordered by.
@@ -85,6 +85,7 @@ impl Rows {
         let Some((number, slot)) = self.edges.get_index(place as usize) else {
             return Ok(());
         };
+        let slot = slot.slot();
         if !slot.before.is_same() || !slot.state.is_live() {
             return Ok(());
         }
@@ -128,7 +129,7 @@ impl Rows {
         let Some((number, slot)) = self.edges.get_index(place as usize) else {
             return Ok(());
         };
-        if !self.is_affected(*number, slot) {
+        if !self.is_affected(*number, &slot.slot()) {
             return Ok(());
         }
         push(edges, self.placed(*number, place))

@@ -6,26 +6,28 @@ ghost use Rattle.uni_table.specs.declared.graph.numbers.Node.{Node};
 ghost use Rattle.uni_table.specs.declared.graph.numbers.Slot.{Slot};
 ghost use Rattle.uni_table.specs.GraphRows.{contents_of, published_of, HasSettled, settled, settled_entity, IsRows};
 
-use super::numbers::{Before, EdgeNo, EntityBefore, Node, Slot};
+use super::numbers::EdgeNo;
 use super::rows::Rows;
+use super::short_node::ShortNode;
+use super::short_slot::ShortSlot;
 use indexmap::IndexMap;
 use uni_base::EntityId;
 
 // Makes an edge one that the batch has not touched.
-fn settle_slot(edges: &mut IndexMap<EdgeNo, Slot>, index: usize)
+fn settle_slot(edges: &mut IndexMap<EdgeNo, ShortSlot>, index: usize)
     ensures { (n : EdgeNo) (slot : Slot) → slice_get edges.old.entries index ≡ Some (n, slot) → edges.new.entries ≡ set_value_at edges.old.entries index (settled slot) }
 {
     if let Some(slot) = edges.get_index_mut(index) {
-        slot.before = Before::Same;
+        slot.settle();
     }
 }
 
 // Makes an id one that the batch has not touched.
-fn settle_node(ids: &mut IndexMap<EntityId, Node>, index: usize)
+fn settle_node(ids: &mut IndexMap<EntityId, ShortNode>, index: usize)
     ensures { (id : ℕ) (node : Node) → slice_get ids.old.entries index ≡ Some (id, node) → ids.new.entries ≡ set_value_at ids.old.entries index (settled_entity node) }
 {
     if let Some(node) = ids.get_index_mut(index) {
-        node.before = EntityBefore::Same;
+        node.settle();
     }
 }
 

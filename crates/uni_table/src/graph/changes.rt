@@ -31,6 +31,7 @@ impl Rows {
         let Some((id, node)) = self.ids.get_index(place) else {
             return Ok(());
         };
+        let node = node.node();
         if !node.is_changed() {
             return Ok(());
         }
@@ -71,7 +72,7 @@ impl Rows {
         ensures { result ≡ ranks_at self.now number }
     {
         match self.ids.get_index(number) {
-            Some((_, node)) => node.ranks(),
+            Some((_, node)) => node.node().ranks(),
             None => Ranks::none(),
         }
     }

@@ -1,5 +1,5 @@
 //! The edges among the rows: look-ups, and one more, another row or a mark that it is gone.
-ghost use Rattle.std.specs.Prelude.{◌≡◌, ℕ, ◌+◌, ◌<◌, ◌^◌, ◌⊎◌, true, None, Some, length, slice_get, IfErr, OnOk, OnErr};
+ghost use Rattle.std.specs.Prelude.{◌≡◌, ℕ, ◌+◌, ◌<◌, ◌^◌, ◌⊎◌, true, is_err, false, None, Some, length, slice_get, IfErr, IfOk, OnOk, OnErr};
 ghost use Rattle.std.specs.BTreeMap.{is_at};
 ghost use Rattle.std.specs.BTreeSet.{contains};
 ghost use Rattle.std.specs.Map.{keys_of};
@@ -9,6 +9,7 @@ ghost use Rattle.uni_base.specs.EdgeOrder.{edge_cmp};
 ghost use Rattle.uni_table.specs.declared.graph.numbers.EdgeNo.{EdgeNo};
 ghost use Rattle.uni_table.specs.declared.graph.numbers.Node.{Node};
 ghost use Rattle.uni_table.specs.declared.graph.numbers.Slot.{Slot};
+ghost use Rattle.uni_table.specs.declared.graph.numbers.SlotState.TheVariants.{Gone};
 ghost use Rattle.uni_table.specs.declared.graph.numbers.Source.{Source};
 ghost use Rattle.uni_table.specs.Commands.{next_edge, refuses_edge};
 ghost use Rattle.uni_table.specs.Contents.{edge_at, with_edge, without_edge};
@@ -16,8 +17,10 @@ ghost use Rattle.uni_table.specs.GraphRows.{contents_of, published_of, written, 
 
 use super::entities::recount;
 use super::found::FoundEdge;
-use super::numbers::{Before, EdgeNo, Node, Side, Slot, SlotState};
+use super::numbers::{Before, EdgeNo, Side, Slot, SlotState};
 use super::rows::{MAX_ROWS, Rows};
+use super::short_node::ShortNode;
+use super::short_slot::ShortSlot;
 use super::short_source::ShortSource;
 use super::touched::{make_room, note_touched};
 use crate::{EdgeRow, FeedRefusal};
@@ -26,28 +29,37 @@ use std::alloc::AllocError;
 use uni_base::{Audience, EdgeRef, EntityId, Limits};
 use uni_schema::TypeDef;
 
-// Writes the state and the end of an edge, which the batch touches, and answers whether it was live.
-fn write_slot(edges: &mut IndexMap<EdgeNo, Slot>, index: usize, state: SlotState, end: u64) -> bool
+// Writes the state and the end of an edge, which the batch touches, and answers whether it was live. That it
+// is gone takes no memory.
+fn write_slot(
+    edges: &mut IndexMap<EdgeNo, ShortSlot>,
+    index: usize,
+    state: SlotState,
+    end: u64,
+) -> Result<bool, AllocError>
     requires { index < length edges.old.entries }
-    ensures entries { (n : EdgeNo) (slot : Slot) → slice_get edges.old.entries index ≡ Some (n, slot) → edges.new.entries ≡ set_value_at edges.old.entries index (written slot state end) }
-    ensures was { (n : EdgeNo) (slot : Slot) → slice_get edges.old.entries index ≡ Some (n, slot) → result ≡ is_live slot.state }
+    ensures entries { (n : EdgeNo) (slot : Slot) → slice_get edges.old.entries index ≡ Some (n, slot) → OnOk result (edges.new.entries ≡ set_value_at edges.old.entries index (written slot state end)) }
+    ensures was { (n : EdgeNo) (slot : Slot) → slice_get edges.old.entries index ≡ Some (n, slot) → IfOk result (λ was. was ≡ is_live slot.state) }
+    ensures err { OnErr result (edges.new.entries ≡ edges.old.entries) }
+    ensures gone { state ≡ Gone → end ≡ 0 → is_err result ≡ false }
 {
+    let alloc = *edges.allocator();
     match edges.get_index_mut(index) {
         Some(slot) => {
-            let was = slot.state.is_live();
-            *slot = slot.written(state, end);
-            was
+            let was = slot.slot().state.is_live();
+            slot.write(alloc, state, end)?;
+            Ok(was)
         }
-        None => false,
+        None => Ok(false),
     }
 }
 
 // Writes the number of the last edge that leads to an id.
-fn write_last_into(ids: &mut IndexMap<EntityId, Node>, index: usize, number: u32)
+fn write_last_into(ids: &mut IndexMap<EntityId, ShortNode>, index: usize, number: u32)
     ensures { (id : ℕ) (node : Node) → slice_get ids.old.entries index ≡ Some (id, node) → ids.new.entries ≡ set_value_at ids.old.entries index (record node { last_edge = number }) }
 {
     if let Some(node) = ids.get_index_mut(index) {
-        node.last_edge = number;
+        node.write_last_edge(number);
     }
 }
 
@@ -67,13 +79,16 @@ impl Rows {
         ensures { (n : EdgeNo) (slot : Slot) → slice_get self.now.edges.entries index ≡ Some (n, slot) → result ≡ row_of (keys_of self.now.sources.entries) slot.state slot.end }
     {
         match self.edges.get_index(index) {
-            Some((_, slot)) => match self.audience(slot.state) {
-                Some(audience) => Some(EdgeRow {
-                    audience,
-                    end: slot.end,
-                }),
-                None => None,
-            },
+            Some((_, slot)) => {
+                let slot = slot.slot();
+                match self.audience(slot.state) {
+                    Some(audience) => Some(EdgeRow {
+                        audience,
+                        end: slot.end,
+                    }),
+                    None => None,
+                }
+            }
             None => None,
         }
     }
@@ -103,13 +118,13 @@ impl Rows {
         ensures { (n : EdgeNo) (slot : Slot) → slice_get self.now.edges.entries index ≡ Some (n, slot) → result ≡ is_same slot.before }
     {
         match self.edges.get_index(index) {
-            Some((_, slot)) => slot.before.is_same(),
+            Some((_, slot)) => slot.slot().before.is_same(),
             None => false,
         }
     }
 
-    // Writes the state and the end of an edge.
-    pub(super) fn set_slot(&mut self, index: usize, state: SlotState, end: u64)
+    // Writes the state and the end of an edge. That it is gone takes no memory.
+    fn set_slot(&mut self, index: usize, state: SlotState, end: u64) -> Result<(), AllocError>
         requires kept { IsRows self.old }
         requires index { index < length self.old.edges.entries }
         requires circle { IsCircleKnown (length self.old.sources.entries) state }
@@ -120,13 +135,32 @@ impl Rows {
         ensures ends { self.new.ends ≡ self.old.ends }
         ensures entity_count { self.new.entity_count ≡ self.old.entity_count }
         ensures published { published_of self.new ≡ published_of self.old }
-        ensures edges { (n : EdgeNo) (slot : Slot) → slice_get self.old.edges.entries index ≡ Some (n, slot) → self.new.edges.entries ≡ set_value_at self.old.edges.entries index (written slot state end) }
-        ensures set { (n : EdgeNo) (slot : Slot) → slice_get self.old.edges.entries index ≡ Some (n, slot) → contents_of self.new ≡ with_edge_row (contents_of self.old) (edge_named (keys_of self.old.sources.entries) (keys_of self.old.ids.entries) n) (row_of (keys_of self.old.sources.entries) state end) }
+        ensures edges { (n : EdgeNo) (slot : Slot) → slice_get self.old.edges.entries index ≡ Some (n, slot) → OnOk result (self.new.edges.entries ≡ set_value_at self.old.edges.entries index (written slot state end)) }
+        ensures set { (n : EdgeNo) (slot : Slot) → slice_get self.old.edges.entries index ≡ Some (n, slot) → OnOk result (contents_of self.new ≡ with_edge_row (contents_of self.old) (edge_named (keys_of self.old.sources.entries) (keys_of self.old.ids.entries) n) (row_of (keys_of self.old.sources.entries) state end)) }
+        ensures err { OnErr result (contents_of self.new ≡ contents_of self.old) }
+        ensures gone { state ≡ Gone → end ≡ 0 → is_err result ≡ false }
     {
         let is_first = self.is_untouched(index);
+        let was = write_slot(&mut self.edges, index, state, end)?;
         note_touched(&mut self.touched_edges, index, is_first);
-        let was = write_slot(&mut self.edges, index, state, end);
         self.edge_count = recount(self.edge_count, was, state.is_live());
+        Ok(())
+    }
+
+    // Writes that an edge is gone.
+    pub(super) fn clear_slot(&mut self, index: usize)
+        requires kept { IsRows self.old }
+        requires index { index < length self.old.edges.entries }
+        ensures kept { IsRows self.new }
+        ensures ids { self.new.ids ≡ self.old.ids }
+        ensures sources { self.new.sources ≡ self.old.sources }
+        ensures ends { self.new.ends ≡ self.old.ends }
+        ensures entity_count { self.new.entity_count ≡ self.old.entity_count }
+        ensures published { published_of self.new ≡ published_of self.old }
+        ensures edges { (n : EdgeNo) (slot : Slot) → slice_get self.old.edges.entries index ≡ Some (n, slot) → self.new.edges.entries ≡ set_value_at self.old.edges.entries index (written slot Gone 0) }
+        ensures set { (n : EdgeNo) (slot : Slot) → slice_get self.old.edges.entries index ≡ Some (n, slot) → contents_of self.new ≡ with_edge_row (contents_of self.old) (edge_named (keys_of self.old.sources.entries) (keys_of self.old.ids.entries) n) None }
+    {
+        let _is_written = self.set_slot(index, SlotState::Gone, 0);
     }
 
     // Notes when an edge ends, if it does.
@@ -169,6 +203,7 @@ impl Rows {
             next_into: self.last(Side::Target, number.target as usize),
             next_from: self.last(Side::Source, number.source as usize),
         };
+        let slot = ShortSlot::of(*self.edges.allocator(), slot)?;
         self.edges.insert(number, slot)?;
         let last = index as u32 + 1;
         write_last_into(&mut self.ids, number.target as usize, last);
@@ -189,8 +224,7 @@ impl Rows {
         ensures err { OnErr result (contents_of self.new ≡ contents_of self.old) }
     {
         self.note_end(index, end)?;
-        self.set_slot(index, state, end);
-        Ok(())
+        self.set_slot(index, state, end)
     }
 
     // Adds an edge, and notes its end.
@@ -278,7 +312,7 @@ impl Rows {
         ensures removed { contents_of self.new ≡ without_edge (contents_of self.old) edge.now }
     {
         if let Some(index) = self.find(edge) {
-            self.set_slot(index, SlotState::Gone, 0);
+            self.clear_slot(index);
         }
     }
 }

@@ -9,7 +9,6 @@ ghost use Rattle.uni_table.specs.GraphRows.{contents_of, published_of, ending_no
 ghost use Rattle.uni_table.specs.Lists.{ending_of};
 
 use super::Ending;
-use super::numbers::SlotState;
 use super::rows::Rows;
 use std::alloc::{AllocError, Global};
 use uni_base::EdgeRef;
@@ -32,6 +31,7 @@ impl Rows {
         let Some((numbers, slot)) = self.edges.get_index(number as usize - 1) else {
             return Ok(());
         };
+        let slot = slot.slot();
         if slot.end != end || !slot.is_ended(publish) {
             return Ok(());
         }
@@ -68,7 +68,7 @@ impl Rows {
             return false;
         }
         match self.edges.get_index(number as usize - 1) {
-            Some((_, slot)) => slot.is_ended(publish),
+            Some((_, slot)) => slot.slot().is_ended(publish),
             None => false,
         }
     }
@@ -96,7 +96,7 @@ impl Rows {
         ensures same { ended (contents_of self.new) publish ≡ ended (contents_of self.old) publish }
     {
         if self.has_ended(number, publish) {
-            self.set_slot(number as usize - 1, SlotState::Gone, 0);
+            self.clear_slot(number as usize - 1);
         }
     }
 

@@ -9,8 +9,8 @@ ghost use Rattle.uni_table.specs.Contents.{entity_at, with_entity, without_row};
 ghost use Rattle.uni_table.specs.declared.graph.numbers.Node.{Node};
 ghost use Rattle.uni_table.specs.GraphRows.{contents_of, published_of, written_entity, is_same_entity, with_entity_row, is_entity, member_of, IsRows};
 
-use super::numbers::Node;
 use super::rows::Rows;
+use super::short_node::ShortNode;
 use super::touched::note_touched;
 use crate::EntityRow;
 use indexmap::IndexMap;
@@ -35,15 +35,15 @@ pub(super) fn as_count(live: bool) -> u64
 }
 
 // Writes the entity of an id, which the batch touches, or that it is none, and answers whether it was one.
-fn write_row(ids: &mut IndexMap<EntityId, Node>, index: usize, row: Option<EntityRow>) -> bool
+fn write_row(ids: &mut IndexMap<EntityId, ShortNode>, index: usize, row: Option<EntityRow>) -> bool
     requires { index < length ids.old.entries }
     ensures entries { (id : ℕ) (node : Node) → slice_get ids.old.entries index ≡ Some (id, node) → ids.new.entries ≡ set_value_at ids.old.entries index (written_entity node row) }
     ensures was { (id : ℕ) (node : Node) → slice_get ids.old.entries index ≡ Some (id, node) → result ≡ is_entity node }
 {
     match ids.get_index_mut(index) {
         Some(node) => {
-            let was = node.row.is_some();
-            *node = node.written(row);
+            let was = node.row().is_some();
+            node.write(row);
             was
         }
         None => false,
@@ -67,7 +67,7 @@ impl Rows {
         ensures { result ≡ option_map_or (λ e. e.1.row) (slice_get self.now.ids.entries number) None }
     {
         match self.ids.get_index(number) {
-            Some((_, node)) => node.row,
+            Some((_, node)) => node.row(),
             None => None,
         }
     }
@@ -78,7 +78,7 @@ impl Rows {
         ensures { (id : ℕ) (node : Node) → slice_get self.now.ids.entries index ≡ Some (id, node) → result ≡ is_same_entity node.before }
     {
         match self.ids.get_index(index) {
-            Some((_, node)) => node.before.is_same(),
+            Some((_, node)) => node.before().is_same(),
             None => false,
         }
     }
@@ -157,7 +157,7 @@ impl Rows {
     {
         let mut docs = Vec::new(alloc);
         for (id, node) in &self.ids {
-            Rows::add_member(schema, vertical, shard, *id, node.row, &mut docs)?;
+            Rows::add_member(schema, vertical, shard, *id, node.row(), &mut docs)?;
         }
         Ok(docs)
     }

@@ -173,7 +173,7 @@ impl Rows {
         ensures { result ≡ slice_get self.now.edges.entries place }
     {
         let (number, slot) = self.edges.get_index(place as usize)?;
-        Some((*number, *slot))
+        Some((*number, slot.slot()))
     }
 
     /// What stands at the places of edges, in the order of the edges. To read it in a loop of its own costs

@@ -6,7 +6,9 @@ ghost use Rattle.uni_table.specs.Contents.{empty};
 ghost use Rattle.uni_table.specs.GraphRows.{contents_of, published_of, audience_named, last_at, IsRows, IsQuiet, IsNumbered, IsStateOf, IsCircleKnown, IsPlaceOf, IsIndexOf, Grows};
 ghost use Rattle.uni_table.specs.GraphKeys.{source_eq, is_noted_at};
 
-use super::numbers::{EdgeNo, EntityBefore, Node, Side, Slot, SlotState, Source};
+use super::numbers::{EdgeNo, EntityBefore, Node, Side, SlotState, Source};
+use super::short_node::ShortNode;
+use super::short_slot::ShortSlot;
 use super::short_source::ShortSource;
 use super::touched::make_room;
 use indexmap::IndexMap;
@@ -19,12 +21,12 @@ use uni_base::{Audience, EdgeRef, EntityId, Key};
 /// and stays.
 #[derive(Drop)]
 pub(crate) struct Rows {
-    pub ids: IndexMap<EntityId, Node>,
+    pub ids: IndexMap<EntityId, ShortNode>,
     /// each type and key with the number of the last edge that starts there, gone or not, or 0
     pub sources: IndexMap<ShortSource, u32>,
     /// for an id, from 1 on, a number of a source that starts there, counted from 1, or 0: where to look first
     pub starts: Vec<u32>,
-    pub edges: IndexMap<EdgeNo, Slot>,
+    pub edges: IndexMap<EdgeNo, ShortSlot>,
     /// ends with the numbers of edges: an entry counts while its edge lives and has that end
     pub ends: BTreeSet<(u64, u32)>,
     pub entity_count: u64,
@@ -158,7 +160,7 @@ impl Rows {
             before: EntityBefore::Same,
             last_edge: 0,
         };
-        add_key(&mut self.ids, id, node)
+        add_key(&mut self.ids, id, ShortNode::of(node))
     }
 
     /// The state of an edge with an audience.
@@ -271,7 +273,7 @@ impl Rows {
     {
         match side {
             Side::Target => match self.ids.get_index(index) {
-                Some((_, node)) => node.last_edge,
+                Some((_, node)) => node.last_edge(),
                 None => 0,
             },
             Side::Source => match self.sources.get_index(index) {

@@ -8,7 +8,7 @@ ghost use Rattle.uni_table.specs.declared.graph.numbers.Slot.{Slot};
 ghost use Rattle.uni_table.specs.GraphRows.{published_of, next_at, edge_named, held_by, slot_named, all_held, gone_at, is_live, IsRows};
 
 use super::entities::as_count;
-use super::numbers::{EdgeNo, Side, SlotState};
+use super::numbers::{EdgeNo, Side};
 use super::rows::Rows;
 use std::alloc::AllocError;
 use uni_base::{EdgeRef, Held};
@@ -20,7 +20,7 @@ impl Rows {
         ensures { (e : EdgeNo × Slot) → slice_get self.now.edges.entries index ≡ Some e → result ≡ next_at side e.1 }
     {
         match self.edges.get_index(index) {
-            Some((_, slot)) => slot.next(side),
+            Some((_, slot)) => slot.slot().next(side),
             None => 0,
         }
     }
@@ -49,7 +49,7 @@ impl Rows {
         let Some((number, slot)) = self.edges.get_index(index) else {
             return Ok(());
         };
-        let Some(audience) = self.audience(slot.state) else {
+        let Some(audience) = self.audience(slot.slot().state) else {
             return Ok(());
         };
         let named = self.edge_ref(*number);
@@ -71,7 +71,7 @@ impl Rows {
         ensures { (e : EdgeNo × Slot) → slice_get self.now.edges.entries index ≡ Some e → result ≡ is_live e.1.state }
     {
         match self.edges.get_index(index) {
-            Some((_, slot)) => slot.state.is_live(),
+            Some((_, slot)) => slot.slot().state.is_live(),
             None => false,
         }
     }
@@ -116,7 +116,7 @@ impl Rows {
         while number > 0 {
             let at = number - 1;
             number = self.next(side, at) as usize;
-            self.set_slot(at, SlotState::Gone, 0);
+            self.clear_slot(at);
         }
     }
 }

@@ -28,7 +28,7 @@ returns-clause-kept c =
     add-kept old new c.requires.kept n slot t.0.0 t.0.1 s.0.0 s.0.1 t.1 s.1
     (c.write_last_into.ensures t.0.0 t.0.1 t.1 ∙ ap (λ m. set_value_at old.ids.entries n.target (record t.0.1 { last_edge = m + 1 })) c.len-index.ensures.len)
     (c.write_last_from.ensures s.0.0 s.0.1 s.1 ∙ ap (λ m. set_value_at old.sources.entries n.source (m + 1)) c.len-index.ensures.len)
-    (c.in_ok-insert.ensures.entries ∙ insert_entry-new edge_no_eq old.edges n slot (unused-numbers (keys_of old.sources.entries) (keys_of old.ids.entries) n old.edges.entries c.requires.unused))
+    (c.in_ok-insert.ensures.entries ∙ ap (Rattle.indexmap.specs.IndexMap.insert_entry edge_no_eq old.edges.entries n) (c.in_ok-slot.ensures {u = tt}) ∙ insert_entry-new edge_no_eq old.edges n slot (unused-numbers (keys_of old.sources.entries) (keys_of old.ids.entries) n old.edges.entries c.requires.unused))
     c.requires.unused c.last.ensures c.last-2.ensures c.requires.source c.requires.target c.requires.circle c.requires.noted c.requires.live few refl refl
     (c.note_touched.ensures.items ∙ (λ j. c.in_ok-make_room.ensures.items j ++ c.len-index.ensures.len j ∷ []))
     (omega (arith, c.in_ok-make_room.ensures.room, c.note_touched.ensures.room)) (omega (arith, c.in_ok-make_room.ensures.ok, c.note_touched.ensures.room, c.len-index.ensures.len))
@@ -45,7 +45,7 @@ returns-clause-ok c =
     add-set old new c.requires.kept n slot t.0.0 t.0.1 s.0.0 s.0.1 t.1 s.1
     (c.write_last_into.ensures t.0.0 t.0.1 t.1 ∙ ap (λ m. set_value_at old.ids.entries n.target (record t.0.1 { last_edge = m + 1 })) c.len-index.ensures.len)
     (c.write_last_from.ensures s.0.0 s.0.1 s.1 ∙ ap (λ m. set_value_at old.sources.entries n.source (m + 1)) c.len-index.ensures.len)
-    (c.in_ok-insert.ensures.entries ∙ insert_entry-new edge_no_eq old.edges n slot (unused-numbers (keys_of old.sources.entries) (keys_of old.ids.entries) n old.edges.entries c.requires.unused))
+    (c.in_ok-insert.ensures.entries ∙ ap (Rattle.indexmap.specs.IndexMap.insert_entry edge_no_eq old.edges.entries n) (c.in_ok-slot.ensures {u = tt}) ∙ insert_entry-new edge_no_eq old.edges n slot (unused-numbers (keys_of old.sources.entries) (keys_of old.ids.entries) n old.edges.entries c.requires.unused))
     c.requires.unused r.0 r.1
     ∙ sym (ap (with_edge_row (Rattle.uni_table.specs.GraphRows.contents_of old) (Rattle.uni_table.specs.GraphRows.edge_named (keys_of old.sources.entries) (keys_of old.ids.entries) n)) r.1)
 
@@ -60,7 +60,7 @@ returns-clause-published c =
     add-then old new c.requires.kept n slot t.0.0 t.0.1 s.0.0 s.0.1 t.1 s.1
     (c.write_last_into.ensures t.0.0 t.0.1 t.1 ∙ ap (λ m. set_value_at old.ids.entries n.target (record t.0.1 { last_edge = m + 1 })) c.len-index.ensures.len)
     (c.write_last_from.ensures s.0.0 s.0.1 s.1 ∙ ap (λ m. set_value_at old.sources.entries n.source (m + 1)) c.len-index.ensures.len)
-    (c.in_ok-insert.ensures.entries ∙ insert_entry-new edge_no_eq old.edges n slot (unused-numbers (keys_of old.sources.entries) (keys_of old.ids.entries) n old.edges.entries c.requires.unused))
+    (c.in_ok-insert.ensures.entries ∙ ap (Rattle.indexmap.specs.IndexMap.insert_entry edge_no_eq old.edges.entries n) (c.in_ok-slot.ensures {u = tt}) ∙ insert_entry-new edge_no_eq old.edges n slot (unused-numbers (keys_of old.sources.entries) (keys_of old.ids.entries) n old.edges.entries c.requires.unused))
     c.requires.unused refl
 
 pub returns-in_err-insert-clause-kept : goal.returns-in_err-insert-clause-kept

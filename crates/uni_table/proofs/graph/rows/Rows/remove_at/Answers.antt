@@ -24,8 +24,8 @@ next-number-requires c =
     let here : c.loop-number.number ≡ suc (c.loop-number.number - 1) = omega arith in
     along-within c.loop-number.self c.loop-number.invariant.kept c.args.side c.args.index c.loop-number.number (c.loop-number.number - 1) here c.loop-number.invariant.along
 
-pub set_slot-requires-clause-index : goal.set_slot-requires-clause-index
-set_slot-requires-clause-index c =
+pub clear_slot-requires-clause-index : goal.clear_slot-requires-clause-index
+clear_slot-requires-clause-index c =
     let here : c.loop-number.number ≡ suc (c.loop-number.number - 1) = omega arith in
     along-within c.loop-number.self c.loop-number.invariant.kept c.args.side c.args.index c.loop-number.number (c.loop-number.number - 1) here c.loop-number.invariant.along
 
@@ -49,15 +49,15 @@ loop-number-preserved c =
     let along = c.loop-number.invariant.along in
     let e = entry-at now.edges.entries i (along-within now kept c.args.side c.args.index c.loop-number.number i here along) in
     let next = c.next-number.ensures e.0 e.1 in
-    let written = c.set_slot.ensures.edges e.0.0 e.0.1 e.1 in
+    let written = c.clear_slot.ensures.edges e.0.0 e.0.1 e.1 in
     record {
-      kept = c.set_slot.ensures.kept;
-      published = c.set_slot.ensures.published ∙ c.loop-number.invariant.published;
+      kept = c.clear_slot.ensures.kept;
+      published = c.clear_slot.ensures.published ∙ c.loop-number.invariant.published;
       along =
-          along-moved now c.set_slot.new.self c.args.side c.args.index c.next-number.result (ap keys_of written ∙ keys-written now.edges.entries i (gone e.0).1)
+          along-moved now c.clear_slot.new.self c.args.side c.args.index c.next-number.result (ap keys_of written ∙ keys-written now.edges.entries i (gone e.0).1)
           (subst (IsAlong now c.args.side c.args.index) (sym next) (along-next now kept c.args.side c.args.index c.loop-number.number i here along e.0 e.1));
-      ids = c.set_slot.ensures.ids ∙ c.loop-number.invariant.ids;
-      sources = c.set_slot.ensures.sources ∙ c.loop-number.invariant.sources;
+      ids = c.clear_slot.ensures.ids ∙ c.loop-number.invariant.ids;
+      sources = c.clear_slot.ensures.sources ∙ c.loop-number.invariant.sources;
       done =
           written ∙ gone-next rows now kept c.args.side c.args.index c.loop-number.number i here along c.loop-number.invariant.done e.0 e.1
           ∙ ap (λ n. changed_from (gone_at c.args.side c.args.index) n rows.edges.entries) (sym next);

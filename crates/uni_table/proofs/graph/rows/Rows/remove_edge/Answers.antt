@@ -10,4 +10,4 @@ returns-in_default-clause-removed c = sym (edge-absent c.args.self.now c.require
 pub returns-in-Some-clause-removed : goal.returns-in-Some-clause-removed
 returns-in-Some-clause-removed c =
     let p = c.in-Some.ensures in
-    c.set_slot.ensures.set p.0.0 p.0.1 p.1 ∙ ap (without_edge (contents_of c.args.self.now)) p.2
+    c.clear_slot.ensures.set p.0.0 p.0.1 p.1 ∙ ap (without_edge (contents_of c.args.self.now)) p.2
