@@ -194,7 +194,7 @@ entries-few terms number before (line ∷ lines) =
 item_line-is : (entry : Entry) (item : AnItem) → IsItemOf entry item → item_line item ≡ line_of entry
 item_line-is entry (items.Change line command) is = ap line_of (sym is)
 item_line-is entry (items.Publish line) is = ap line_of (sym is)
-item_line-is entry (items.Ask line session viewer limit query) is = ap line_of (sym is)
+item_line-is entry (items.Ask line viewer session limit query) is = ap line_of (sym is)
 item_line-is entry (items.Compact line vertical shard replica) is = ap line_of (sym is)
 item_line-is entry (items.Stats line) is = ap line_of (sym is)
 item_line-is entry (items.Refused line code) is = ap line_of (sym is)

@@ -39,7 +39,7 @@ reads_query entry = false
 abbrev pub IsItemOf : Entry → Item → Type 0
 IsItemOf entry (Change line command) = entry ≡ change line command
 IsItemOf entry (Publish line) = entry ≡ publish line
-IsItemOf entry (Ask line session viewer limit query) = entry ≡ ask line session viewer limit (stated_of query.value).plan
+IsItemOf entry (Ask line viewer session limit query) = entry ≡ ask line session viewer limit (stated_of query.value).plan
 IsItemOf entry (Compact line vertical shard replica) = entry ≡ compact line vertical shard replica
 IsItemOf entry (Stats line) = entry ≡ stats line
 IsItemOf entry (Refused line code) = entry ≡ refused line code

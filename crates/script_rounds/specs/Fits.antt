@@ -45,7 +45,7 @@ pub record IsStack (schema : Declarations) (vertical shard replica : ℕ) : Type
 -- what an item names is declared, and its numbers are in their ranges
 abbrev pub ItemFits : Terms → Item → Type 0
 ItemFits terms (Change line command) = LineIsDeclared terms.schema (feed.Change command) × HasUntil terms.schema (feed.Change command)
-ItemFits terms (Ask line session viewer limit query) = IsAsk terms session limit query.value
+ItemFits terms (Ask line viewer session limit query) = IsAsk terms session limit query.value
 ItemFits terms (Compact line vertical shard replica) = IsStack terms.schema vertical shard replica
 ItemFits terms (Publish line) = ⊤
 ItemFits terms (Stats line) = ⊤

@@ -17,7 +17,7 @@ use Rattle.script_rounds.specs.Terms.{Terms}
 abbrev pub item_line : Item → ℕ
 item_line (Change line command) = line
 item_line (Publish line) = line
-item_line (Ask line session viewer limit query) = line
+item_line (Ask line viewer session limit query) = line
 item_line (Compact line vertical shard replica) = line
 item_line (Stats line) = line
 item_line (Refused line code) = line

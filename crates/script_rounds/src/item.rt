@@ -4,7 +4,8 @@ use packed_command::PackedCommand;
 use query_check::Checked;
 use uni_base::{EntityId, Rows};
 
-/// What a line of a round is that counts, with the line's number first.
+/// What a line of a round is that counts, with the line's number first. The fields of a query stand in such an
+/// order that an item takes 40 bytes.
 #[derive(Debug, Drop)]
 pub enum Item {
     /// A change of the table.
@@ -15,8 +16,8 @@ pub enum Item {
     /// are queries.
     Ask {
         line: u64,
-        session: u32,
         viewer: EntityId,
+        session: u32,
         limit: u32,
         query: Box<Checked>,
     },

@@ -39,26 +39,26 @@ module _ (place line session viewer limit : ℕ) (query : Box Checked Global) (a
       by false is = there other is (grind (arith, nat_tests, at_place, is))
 
   -- an `ask` is of its place alone
-  pub asks_at-same : (items : List Item) → asks_at place (Ask line session viewer limit query ∷ items) ≡ ask_line ∷ asks_at place items
+  pub asks_at-same : (items : List Item) → asks_at place (Ask line viewer session limit query ∷ items) ≡ ask_line ∷ asks_at place items
   asks_at-same items = ap (λ b. cons_option (if b then Some ask_line else None) (asks_at place items)) (same_number-true session (place + 1) at_place)
 
-  pub asks_at-other : (items : List Item) (other : ℕ) → (session == other + 1) ≡ false → asks_at other (Ask line session viewer limit query ∷ items) ≡ asks_at other items
+  pub asks_at-other : (items : List Item) (other : ℕ) → (session == other + 1) ≡ false → asks_at other (Ask line viewer session limit query ∷ items) ≡ asks_at other items
   asks_at-other items other apart = ap (λ b. cons_option (if b then Some ask_line else None) (asks_at other items)) apart
 
   module _ (schema : Declarations) (journal : List (List Command)) (low : ℕ) (items : List Item) (asked : ℕ → List Answer) where
     -- the answers of asks, without the first `ask` and its answer
-    pub replied_same : AreReplied schema journal low (asks_at place (Ask line session viewer limit query ∷ items)) (asked place)
+    pub replied_same : AreReplied schema journal low (asks_at place (Ask line viewer session limit query ∷ items)) (asked place)
         → AreReplied schema journal low (ask_line ∷ asks_at place items) (asked place)
     replied_same all = subst (λ asks. AreReplied schema journal low asks (asked place)) (asks_at-same items) all
 
     pub replied_other : (other : ℕ) → (other == place) ≡ false → (session == other + 1) ≡ false
-        → AreReplied schema journal low (asks_at other (Ask line session viewer limit query ∷ items)) (asked other)
+        → AreReplied schema journal low (asks_at other (Ask line viewer session limit query ∷ items)) (asked other)
         → AreReplied schema journal low (asks_at other items) (popped place asked other)
     replied_other other apart is all =
         subst (AreReplied schema journal low (asks_at other items)) (sym (popped-other place other asked apart))
         (subst (λ asks. AreReplied schema journal low asks (asked other)) (asks_at-other items other is) all)
 
-    pub replied_others : ((other : ℕ) → AreReplied schema journal low (asks_at other (Ask line session viewer limit query ∷ items)) (asked other))
+    pub replied_others : ((other : ℕ) → AreReplied schema journal low (asks_at other (Ask line viewer session limit query ∷ items)) (asked other))
         → (other : ℕ) → AreReplied schema journal low (asks_at other items) (popped place asked other)
     replied_others all =
         by_place (λ other. AreReplied schema journal low (asks_at other items) (popped place asked other))

@@ -59,7 +59,7 @@ and_false false b is = inl refl
 publish_alike : (entry : Entry) (it : Item) → IsItemOf entry it → publishes it ≡ false → is_publish entry ≡ false
 publish_alike entry (item.Change line command) of not = ap is_publish of
 publish_alike entry (item.Publish line) of not = absurd cc
-publish_alike entry (item.Ask line session viewer limit query) of not = ap is_publish of
+publish_alike entry (item.Ask line viewer session limit query) of not = ap is_publish of
 publish_alike entry (item.Compact line vertical shard replica) of not = ap is_publish of
 publish_alike entry (item.Stats line) of not = ap is_publish of
 publish_alike entry (item.Refused line code) of not = ap is_publish of
@@ -80,7 +80,7 @@ publish_alike entry (item.Memory line) of not = reading entry of.0
 ask_alike : (entry : Entry) (it : Item) → IsItemOf entry it → may_ask it ≡ false → is_ask entry ≡ false
 ask_alike entry (item.Change line command) of not = ap is_ask of
 ask_alike entry (item.Publish line) of not = ap is_ask of
-ask_alike entry (item.Ask line session viewer limit query) of not = absurd cc
+ask_alike entry (item.Ask line viewer session limit query) of not = absurd cc
 ask_alike entry (item.Compact line vertical shard replica) of not = ap is_ask of
 ask_alike entry (item.Stats line) of not = ap is_ask of
 ask_alike entry (item.Refused line code) of not = ap is_ask of

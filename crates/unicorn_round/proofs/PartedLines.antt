@@ -63,7 +63,7 @@ module _ (terms : Terms) where
   -- each `ask` is one of the sessions that there may be
   pub each_for : (items : List Item) → ItemsFit terms items → AllByRecursion (IsFor terms.limits.sessions) items
   each_for [] fit = tt
-  each_for (Ask line session viewer limit query ∷ items) fit = ((fit.0.session_from, fit.0.session_to), each_for items fit.1)
+  each_for (Ask line viewer session limit query ∷ items) fit = ((fit.0.session_from, fit.0.session_to), each_for items fit.1)
   each_for (Change line command ∷ items) fit = (tt, each_for items fit.1)
   each_for (Publish line ∷ items) fit = (tt, each_for items fit.1)
   each_for (Compact line vertical shard replica ∷ items) fit = (tt, each_for items fit.1)
@@ -76,7 +76,7 @@ module _ (terms : Terms) where
   -- so none is of a session past them
   pub none_past : (place : ℕ) (items : List Item) → ItemsFit terms items → terms.limits.sessions ≤ place → asks_at place items ≡ []
   none_past place [] fit past = refl
-  none_past place (Ask line session viewer limit query ∷ items) fit past = ap (λ rest. cons_option {X = AskLine} (ask_at place (Ask line session viewer limit query)) rest) (none_past place items fit.1 past) ∙ by (session == place + 1) refl
+  none_past place (Ask line viewer session limit query ∷ items) fit past = ap (λ rest. cons_option {X = AskLine} (ask_at place (Ask line viewer session limit query)) rest) (none_past place items fit.1 past) ∙ by (session == place + 1) refl
     where
       other : (b : Bool) → (session == place + 1) ≡ b → b ≡ true → session ≡ place + 1
       other b is told = grind (arith, nat_tests)
@@ -103,7 +103,7 @@ module _ (terms : Terms) where
   -- the queries of all asks are typed
   pub asks_typed : WithinHasShares → (place : ℕ) (items : List Item) → ItemsFit terms items → AllByRecursion (IsAsk terms.schema) (asks_at place items)
   asks_typed laws place [] fit = tt
-  asks_typed laws place (Ask line session viewer limit query ∷ items) fit = by (session == place + 1) (asks_typed laws place items fit.1)
+  asks_typed laws place (Ask line viewer session limit query ∷ items) fit = by (session == place + 1) (asks_typed laws place items fit.1)
     where
       by : (b : Bool) → AllByRecursion (IsAsk terms.schema) (asks_at place items) → AllByRecursion (IsAsk terms.schema) (cons_option (if b then Some (record { line = line; viewer = viewer; limit = limit; query = query.value }) else None) (asks_at place items))
       by true rest = (asked laws query.value fit.0.asks, rest)

@@ -70,10 +70,10 @@ module _ (terms : Terms) (end : Standing) where
       (feed_mark-none lack) refl (published s line lack) (rise_after line line to items (omega arith) rise.1)
       (lines_woven (record { feed = fed_one terms s.feed (publish line) lack; covers = s.covers }) entries items lacks asked compacted low line to are.1 fit.1 rise.1
       (omega (arith, same)) replied done))
-  lines_woven s (entry ∷ entries) (Ask line session viewer limit query ∷ items) lacks asked compacted low from to are fit rise same replied done =
+  lines_woven s (entry ∷ entries) (Ask line viewer session limit query ∷ items) lacks asked compacted low from to are fit rise same replied done =
       let place = session - 1 in
       let at_place : session ≡ place + 1 = omega (arith, fit.0.session_from) in
-      subst (λ e. AreWoven terms end s (e ∷ entries) (lines_of (Ask line session viewer limit query ∷ items)) lacks asked compacted low) (sym are.0)
+      subst (λ e. AreWoven terms end s (e ∷ entries) (lines_of (Ask line viewer session limit query ∷ items)) lacks asked compacted low) (sym are.0)
       (ask_woven terms end s place line session viewer limit query entries items lacks asked compacted low at_place (replied place)
       (lines_woven s entries items lacks (popped place asked) compacted low line to are.1 fit.1 rise.1 same
       (replied_others place line session viewer limit query at_place terms.schema end.feed.journal low items asked replied) done))

@@ -151,10 +151,10 @@ module _ (terms : Terms) (end : Standing) where
 
   -- one `ask` more, of the session at a place
   pub ask_woven : (s : Standing) (place line session viewer limit : ℕ) (query : Box Checked Global) (entries : List Entry) (items : List Item) (lacks : List Bool) (asked : ℕ → List Answer) (compacted : List Answer) (low : ℕ)
-      → session ≡ place + 1 → AreReplied terms.schema end.feed.journal low (asks_at place (Ask line session viewer limit query ∷ items)) (asked place)
+      → session ≡ place + 1 → AreReplied terms.schema end.feed.journal low (asks_at place (Ask line viewer session limit query ∷ items)) (asked place)
       → AreWoven terms end s entries (lines_of items) lacks (popped place asked) compacted low
       → AreWoven terms end s (ask line session viewer limit (stated_of query.value).plan ∷ entries)
-      (record { slots = slot.Ask place ∷ map slot_of items; feeds = feed_entries (feed_items items); asks = λ other. asks_at other (Ask line session viewer limit query ∷ items); compacting = compactions items })
+      (record { slots = slot.Ask place ∷ map slot_of items; feeds = feed_entries (feed_items items); asks = λ other. asks_at other (Ask line viewer session limit query ∷ items); compacting = compactions items })
       lacks asked compacted low
   ask_woven s place line session viewer limit query entries items lacks asked compacted low at_place all w = record {
     marks = mark ∷ w.marks;
@@ -182,10 +182,10 @@ module _ (terms : Terms) (end : Standing) where
       mark = first_mark (asked place)
 
       Follows : ℕ → Type 0
-      Follows other = (from : ℕ) → from ≤ made end.feed → AreReplied terms.schema end.feed.journal from (asks_at other (Ask line session viewer limit query ∷ items)) (asked other)
+      Follows other = (from : ℕ) → from ≤ made end.feed → AreReplied terms.schema end.feed.journal from (asks_at other (Ask line viewer session limit query ∷ items)) (asked other)
           → Between from (made end.feed) (numbers_in (asks_in (other + 1)) (entry ∷ entries) (mark ∷ w.marks))
 
-      same : (from : ℕ) → AreReplied terms.schema end.feed.journal from (asks_at place (Ask line session viewer limit query ∷ items)) (asked place)
+      same : (from : ℕ) → AreReplied terms.schema end.feed.journal from (asks_at place (Ask line viewer session limit query ∷ items)) (asked place)
           → AreReplied terms.schema end.feed.journal from (one ∷ asks_at place items) (asked place)
       same from follows = replied_same place line session viewer limit query at_place terms.schema end.feed.journal from items asked follows
 

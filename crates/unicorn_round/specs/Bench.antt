@@ -20,7 +20,7 @@ publishes (item.Publish line) = true
 publishes other = false
 
 abbrev pub may_ask : Item → Bool
-may_ask (item.Ask line session viewer limit query) = true
+may_ask (item.Ask line viewer session limit query) = true
 may_ask (item.Memory line) = true
 may_ask other = false
 

@@ -9,7 +9,7 @@ use Rattle.unicorn_round.specs.Weaving.{ask_at, asks_at, compactions, feed_items
 
 -- an `ask` is one of so many sessions
 abbrev pub IsFor : ℕ → Item → Type 0
-IsFor sessions (Ask line session viewer limit query) = (1 ≤ session) × (session ≤ sessions)
+IsFor sessions (Ask line viewer session limit query) = (1 ≤ session) × (session ≤ sessions)
 IsFor sessions item = ⊤
 
 -- the slots of all lines: where none is kept, all lines are the feeder's

@@ -26,7 +26,7 @@ is_compaction item = false
 
 -- the ask of a line, where it is one of the session at a place: places count from 0, and sessions from 1
 abbrev pub ask_at : ℕ → Item → Option AskLine
-ask_at place (Ask line session viewer limit query) = if session == place + 1 then Some (record { line = line; viewer = viewer; limit = limit; query = query.value }) else None
+ask_at place (Ask line viewer session limit query) = if session == place + 1 then Some (record { line = line; viewer = viewer; limit = limit; query = query.value }) else None
 ask_at place item = None
 
 -- the lines of each, in order
@@ -43,7 +43,7 @@ asks_at place items = filter_map (ask_at place) items
 abbrev pub slot_of : Item → Slot
 slot_of (Change line command) = slot.Feed line
 slot_of (Publish line) = slot.Feed line
-slot_of (Ask line session viewer limit query) = slot.Ask (session - 1)
+slot_of (Ask line viewer session limit query) = slot.Ask (session - 1)
 slot_of (Compact line vertical shard replica) = slot.Compact
 slot_of (Stats line) = slot.Stats line
 slot_of (Refused line code) = slot.Refused line code
