@@ -1,8 +1,7 @@
 -- What the oldest layers of a stack of records put together, record by record.
-use Rattle.std.specs.Prelude.{◌≡◌, Bool, false, List, [], ◌∷◌, is_some, All, T}
+use Rattle.std.specs.Prelude.{◌≡◌, Bool, false, List, [], ◌∷◌, is_some, All}
 use Rattle.std.specs.List.{list_any}
 use Rattle.std.specs.FinMap as finite
-use Rattle.std.specs.FinMap.{is_sorted}
 use Rattle.layer_base.specs.Among as among
 use Rattle.forward_data.specs.declared.record.ForwardItem.{ForwardItem}
 use Rattle.forward_data.specs.declared.record.RecordKey.{RecordKey}
@@ -17,9 +16,8 @@ abbrev pub is_changed : RecordKey → List Records → Bool
 is_changed key layers = list_any (λ layer. is_some (finite.get layer key)) layers
 
 -- the keys at which layers have records, in order
-pub record AreChanged (layers : List Records) (keys : List (RecordKey × Unit {0})) : Type 0 where
-  pub sorted : T (is_sorted record_cmp keys)
-  pub exact : (k : RecordKey) → is_among k keys ≡ is_changed k layers
+abbrev pub AreChanged : List Records → List (RecordKey × Unit {0}) → Type 0
+AreChanged layers keys = among.AreExactly record_cmp (λ key. is_changed key layers) keys
 
 -- with a record put, if it is not empty
 abbrev pub putting_record : RecordKey → List ForwardItem → Records → Records

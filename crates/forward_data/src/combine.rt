@@ -7,7 +7,7 @@ ghost use Rattle.forward_data.specs.Combined.{AreChanged, StandAlone, is_among, 
 
 use crate::layer::left_by;
 use crate::{ForwardDelta, ForwardItem, ForwardItems, ForwardStack, RecordKey};
-use layer_base::{last_words, look_up_near};
+use layer_base::{first_after, last_words, look_up_near};
 use std::alloc::{AllocError, Global};
 
 // The keys at which layers after the oldest one, up to a count, have a record: in order, each once.
@@ -44,7 +44,7 @@ pub(crate) fn combined(
     let mut hints = first_hints(alloc, count)?;
     let mut at = 0;
     for (key, items) in rows {
-        let to = passed(changed, at, key);
+        let to = first_after(changed, at, key);
         put_records(alloc, &mut delta, stack, &mut hints, &changed[at..to])?;
         put_unchanged(alloc, &mut delta, changed, at, key, items.as_slice())?;
         at = to;
@@ -57,19 +57,6 @@ pub(crate) fn combined(
         &changed[at..changed.len()],
     )?;
     Ok(delta)
-}
-
-// The first place, from a given one on, whose key comes after another key.
-fn passed(keys: &[(RecordKey, ())], from: usize, key: &RecordKey) -> usize
-    requires { from ≤ length keys.now }
-    ensures { (from ≤ result) × (result ≤ length keys.now) }
-{
-    for at in from..keys.len() {
-        if keys[at].0.cmp(key).is_gt() {
-            return at;
-        }
-    }
-    keys.len()
 }
 
 // A hint for each of so many layers, at its first record.

@@ -10,5 +10,5 @@ mod shared;
 mod tests;
 
 pub use log::{keep_last_words, last_words, look_up, rises, rows_left};
-pub use near::look_up_near;
+pub use near::{first_after, look_up_near};
 pub use shared::SharedLayers;

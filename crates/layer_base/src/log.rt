@@ -1,4 +1,4 @@
-ghost use Rattle.std.specs.Prelude.{◌≡◌, ◌≤◌, T, length, IfOk, OnOk};
+ghost use Rattle.std.specs.Prelude.{◌≡◌, ◌≤◌, T, length, IfOk, OnErr, OnOk, IsPermutation};
 ghost use Rattle.std.specs.Option.{option_map};
 ghost use Rattle.std.specs.FinMap as map;
 ghost use Rattle.std.specs.FinMap.{is_sorted};
@@ -19,11 +19,12 @@ pub fn last_words<K: Ord + Copy, V: Drop>(mut log: Vec<(K, V)>) -> Result<Vec<(K
 }
 
 /// Leaves of a log its last word on each key, in the order of the keys. A log whose keys strictly
-/// rise stays as it is.
+/// rise stays as it is, and one for which there is no memory keeps its rows, in some order.
 pub fn keep_last_words<K: Ord + Copy, V: Drop>(log: &mut Vec<(K, V)>) -> Result<(), AllocError>
     requires { TellsApart K.cmp }
     ensures last { OnOk result (log.new.items ≡ map.entries (from_log {R = K.cmp} log.old.items)) }
     ensures few { OnOk result (length log.new.items ≤ length log.old.items) }
+    ensures err { OnErr result (IsPermutation log.old.items log.new.items) }
 {
     if rises(log) {
         return Ok(());

@@ -1,9 +1,9 @@
-ghost use Rattle.std.specs.Prelude.{◌≡◌, T};
+ghost use Rattle.std.specs.Prelude.{◌≡◌, ◌≤◌, T, length};
 ghost use Rattle.std.specs.Option.{option_map};
 ghost use Rattle.std.specs.List.{slice_get};
 ghost use Rattle.std.specs.FinMap as map;
 ghost use Rattle.layer_base.specs.Layers.{TellsApart};
-ghost use Rattle.layer_base.specs.Lookups.{comes_before, is_place, IsPlaceOf};
+ghost use Rattle.layer_base.specs.Lookups.{comes_before, is_place, IsFirstAfter, IsPlaceOf};
 
 /// How many rows from a hint on are looked at before all rows are halved.
 const NEAR: usize = 8;
@@ -13,7 +13,8 @@ const NEAR: usize = 8;
 pub fn look_up_near<'a, K: Ord, V>(rows: &'a [(K, V)], hint: &mut usize, key: &K) -> Option<&'a V>
     requires apart { TellsApart K.cmp }
     requires sorted { T (map.is_sorted K.cmp rows.now) }
-    ensures { option_map (λ v. v.now) result ≡ map.find K.cmp key.now rows.now }
+    ensures value { option_map (λ v. v.now) result ≡ map.find K.cmp key.now rows.now }
+    ensures hint { IsPlaceOf K.cmp key.now rows.now hint.new }
 {
     let at = place_near(rows, *hint, key);
     *hint = at;
@@ -26,6 +27,21 @@ pub fn look_up_near<'a, K: Ord, V>(rows: &'a [(K, V)], hint: &mut usize, key: &K
     } else {
         None
     }
+}
+
+/// The first place, from a given one on, at which a key comes after another. The number of rows where
+/// there is none.
+pub fn first_after<K: Ord, V>(rows: &[(K, V)], from: usize, key: &K) -> usize
+    requires { from ≤ length rows.now }
+    ensures within { (from ≤ result) × (result ≤ length rows.now) }
+    ensures first { IsFirstAfter K.cmp key.now rows.now from result }
+{
+    for at in from..rows.len() {
+        if rows[at].0.cmp(key).is_gt() {
+            return at;
+        }
+    }
+    rows.len()
 }
 
 // Where a key stands or would stand, by a search that begins at a hint.

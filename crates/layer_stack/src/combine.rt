@@ -14,7 +14,7 @@ use crate::directory::{Directory, Span};
 use crate::front::FrontReader;
 use crate::term_spans::puts_in;
 use crate::{Delta, Stack, TermKey};
-use layer_base::{last_words, look_up_near};
+use layer_base::{first_after, last_words, look_up_near};
 use posting_lists::PostingColumns;
 use std::alloc::{AllocError, Global};
 
@@ -23,7 +23,7 @@ use std::alloc::{AllocError, Global};
 pub(crate) struct Changed {
     // The terms at which they delete or put, in order, each once.
     pub(crate) terms: Vec<(TermKey, ())>,
-    // How many rows they add at most.
+    // How many postings the layers leave, where each delete is of one that stands.
     pub(crate) rows: usize,
 }
 
@@ -34,10 +34,10 @@ impl Changed {
         ensures { IfOk result (λ changed. AreChanged (section 1 count stack.now.0) changed.terms.items) }
     {
         let mut log = Vec::new(alloc);
-        let mut rows = 0_usize;
+        let mut rows = stack.layer(0).rows_over(0);
         for i in 1..count {
             stack.layer(i).note_terms(&mut log)?;
-            rows = rows.saturating_add(stack.layer(i).entries() as usize);
+            rows = stack.layer(i).rows_over(rows);
         }
         let terms = last_words(log)?;
         Ok(Changed { terms, rows })
@@ -46,7 +46,7 @@ impl Changed {
 
 // Puts what the first layers of a stack stand for. The directory and the postings are what the
 // oldest one puts, which stands alone under each term that is not among the changed ones. There is
-// room from the start for these postings and so many rows.
+// room from the start for so many rows, and for an eighth more terms than the oldest one has.
 pub(crate) fn combined(
     alloc: Global,
     stack: &Stack,
@@ -63,12 +63,14 @@ pub(crate) fn combined(
     ensures { IfOk result (λ delta. delta ≡ putting_all (stack_table (take count stack.now.0))) }
 {
     let mut front = FrontReader::of(alloc, stack, count)?;
-    let terms = directory.len().saturating_add(changed.len());
-    let mut delta = Delta::with_capacity(alloc, terms, postings.len().saturating_add(rows))?;
+    let terms = directory
+        .len()
+        .saturating_add(changed.len().min(directory.len() / 8));
+    let mut delta = Delta::with_capacity(alloc, terms, rows)?;
     let mut at = 0;
     for (term, spans) in directory.iter() {
         let whole = term.term();
-        let to = passed(changed, at, &whole);
+        let to = first_after(changed, at, &whole);
         front.put_terms(&mut delta, &changed[at..to])?;
         let span = puts_in(Some(*spans));
         put_unchanged(&mut delta, changed, at, &whole, postings, span)?;
@@ -76,19 +78,6 @@ pub(crate) fn combined(
     }
     front.put_terms(&mut delta, &changed[at..changed.len()])?;
     Ok(delta)
-}
-
-// The first place, from a given one on, whose term comes after another term.
-fn passed(terms: &[(TermKey, ())], from: usize, term: &TermKey) -> usize
-    requires { from ≤ length terms.now }
-    ensures { (from ≤ result) × (result ≤ length terms.now) }
-{
-    for at in from..terms.len() {
-        if terms[at].0.cmp(term).is_gt() {
-            return at;
-        }
-    }
-    terms.len()
 }
 
 // Puts the postings of a span, if there is one, unless their term is among the changed ones, where

@@ -109,6 +109,12 @@ impl Layer {
         Part::new(deletes, puts)
     }
 
+    // How many postings stand where the layer lies over so many, and each of its deletes is of one that stands.
+    pub(crate) fn rows_over(&self, rows: usize) -> usize {
+        rows.saturating_add(self.postings.len())
+            .saturating_sub(self.deleted.len())
+    }
+
     // A reader of what it has under one term after another.
     pub(crate) fn reader(&self) -> LayerReader<'_>
         ensures { result ≡ (self.now, []) }

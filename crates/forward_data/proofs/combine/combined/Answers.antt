@@ -20,7 +20,7 @@ loop-key-init c =
 pub loop-key-preserved : goal.loop-key-preserved
 loop-key-preserved c =
     let layers = take c.args.count c.args.stack.now.0 in let changed = c.args.changed.now in let rows = c.args.rows.now in
-    let at = c.loop-key.at in let to = c.passed-to.result in let i = c.loop-key.key-index in let e = c.loop-key-item.result in let d1 = c.put_records.new.delta in
+    let at = c.loop-key.at in let to = c.first_after-to.result in let i = c.loop-key.key-index in let e = c.loop-key-item.result in let d1 = c.put_records.new.delta in
     let here : get_or rows i e ≡ e = sym c.loop-key-item.is in
     let alone : is_among e.0 changed ≡ false → e.1 ≡ record_of e.0 layers =
     subst (λ (x : RecordKey × List ForwardItem). is_among x.0 changed ≡ false → x.1 ≡ record_of x.0 layers) here (c.requires.alone.each i e c.loop-key-test.true) in
@@ -28,12 +28,12 @@ loop-key-preserved c =
     let long : length c.put_records.new.hints ≡ c.loop-key.hints.len = search (rules, arith) in
     let records : d1 ≡ putting_records layers (take (to - at) (drop at changed)) c.loop-key.delta =
     c.in_ok-put_records.ensures.records ∙ ap (λ n. putting_records (take n c.args.stack.now.0) (take (to - at) (drop at changed)) c.loop-key.delta) count in
-    let has = subst (λ (d : Records). Has (records_of layers) (is_done record_cmp changed to (take i rows)) d) (sym records) (done_records layers changed at to (take i rows) c.loop-key.delta c.passed-to.ensures.0 c.passed-to.ensures.1 c.loop-key.invariant.has) in
+    let has = subst (λ (d : Records). Has (records_of layers) (is_done record_cmp changed to (take i rows)) d) (sym records) (done_records layers changed at to (take i rows) c.loop-key.delta c.first_after-to.ensures.within.0 c.first_after-to.ensures.within.1 c.loop-key.invariant.has) in
     let more : take i rows ++ e ∷ [] ≡ take (i + 1) rows = sym (take_more rows i e c.loop-key-test.true ∙ ap (λ x. take i rows ++ x ∷ []) here) in
     let put : c.put_unchanged.new.delta ≡ cond (is_among e.0 changed) d1 (putting_record e.0 e.1 d1) =
     c.in_ok-put_unchanged.ensures {u = tt} ∙ ap (λ (items : List ForwardItem). cond (is_among e.0 changed) d1 (putting_record e.0 items d1)) c.as_slice.ensures in
     record {
-      within = c.passed-to.ensures.1;
+      within = c.first_after-to.ensures.within.1;
       hints = ap length (with_items_is c.loop-key.hints c.put_records.new.hints long) ∙ c.put_records.ensures.hints ∙ count;
       has = subst (λ (d : Records). Has (records_of layers) (is_done record_cmp changed to (take (i + 1) rows)) d) (sym put)
           (subst (λ (rs : List (RecordKey × List ForwardItem)). Has (records_of layers) (is_done record_cmp changed to rs) (cond (is_among e.0 changed) d1 (putting_record e.0 e.1 d1))) more

@@ -38,7 +38,7 @@ put_unchanged-requires-clause-within c =
 pub loop-term-preserved : goal.loop-term-preserved
 loop-term-preserved c =
     let table = stack_table (take c.args.count c.args.stack.now.0) in let changed = c.args.changed.now in let directory = c.args.directory.now in let ps = c.args.postings.now in
-    let at = c.loop-term.at in let to = c.passed-to.result in let rows = map deref_pair c.loop-term.yielded in
+    let at = c.loop-term.at in let to = c.first_after-to.result in let rows = map deref_pair c.loop-term.yielded in
     let e : TermKey × TermSpans = (c.in-Some.term.now, c.in-Some.spans.now) in let c1 = c.put_terms.new.delta in
     let start : c.into_iter-term-iterator.result ≡ directory = search rules in
     let road = YieldsList-from_rest {shows = deref_pair {K = TermKey} {X = TermSpans}} {s = c.into_iter-term-iterator.result} directory start in
@@ -48,10 +48,10 @@ loop-term-preserved c =
     let alone : is_among e.0 changed ≡ false → own ≡ postings_of e.0 table = λ none. ap (λ o. told o ps) found ∙ c.requires.alone e.0 none in
     let terms : c1 ≡ putting_terms table (section at to changed) c.loop-term.delta =
     c.in_ok-put_terms.ensures.put ∙ ap (λ (layers : List PostingChanges). putting_terms (stack_table layers) (section at to changed) c.loop-term.delta) c.loop-term.invariant.front in
-    let has = subst (λ (d : PostingChanges). Has table (is_done term_cmp changed to rows) d) (sym terms) (done_terms table changed at to rows c.loop-term.delta c.passed-to.ensures.0 c.passed-to.ensures.1 c.loop-term.invariant.has) in
+    let has = subst (λ (d : PostingChanges). Has table (is_done term_cmp changed to rows) d) (sym terms) (done_terms table changed at to rows c.loop-term.delta c.first_after-to.ensures.within.0 c.first_after-to.ensures.within.1 c.loop-term.invariant.has) in
     let more = sym (map-append (deref_pair {K = TermKey} {X = TermSpans}) c.loop-term.yielded ((c.in-Some.term, c.in-Some.spans) ∷ [])) in
     record {
-      within = c.passed-to.ensures.1;
+      within = c.first_after-to.ensures.within.1;
       front = c.put_terms.ensures.same ∙ c.loop-term.invariant.front;
       has = subst (λ (d : PostingChanges). Has table (is_done term_cmp changed to (map deref_pair (c.loop-term.yielded ++ (c.in-Some.term, c.in-Some.spans) ∷ []))) d) (sym (c.in_ok-put_unchanged.ensures {u = tt} ∙ ap (λ (t : TermKey). cond (is_among t changed) c1 (putting_list t own c1)) c.term-whole.ensures))
           (subst (λ (ss : List (TermKey × TermSpans)). Has table (is_done term_cmp changed to ss) (cond (is_among e.0 changed) c1 (putting_list e.0 own c1))) more

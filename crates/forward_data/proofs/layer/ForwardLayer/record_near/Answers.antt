@@ -6,4 +6,4 @@ use Rattle.forward_data.proofs.layer.ForwardLayer.record_near.Goals as goal
 
 pub returns : goal.returns
 returns c =
-    c.look_up_near.ensures ∙ ap (find record_cmp c.args.key.now) c.deref.ensures.value ∙ sym (finite.get-from_sorted record_cmp c.self.inside.rows.items c.args.key.now c.self.invariant) ∙ ap (λ records. finite.get records c.args.key.now) c.self.view_is
+    c.look_up_near.ensures.value ∙ ap (find record_cmp c.args.key.now) c.deref.ensures.value ∙ sym (finite.get-from_sorted record_cmp c.self.inside.rows.items c.args.key.now c.self.invariant) ∙ ap (λ records. finite.get records c.args.key.now) c.self.view_is

@@ -14,9 +14,9 @@ use Rattle.layer_stack.proofs.combine.Changed.of.Goals as goal
 
 pub loop-i-preserved : goal.loop-i-preserved
 loop-i-preserved c t =
-    let layer = c.layer.result.now.value in
-    let is : c.deref.result.now ≡ layer = search rules in
-    changed_more t c.args.stack.now.0 c.loop-i.i layer (is_among t c.loop-i.log.items) (is_among t c.note_terms.new.terms.items) c.loop-i.auto.i c.layer.ensures (c.loop-i.invariant t)
+    let layer = c.layer-in-loop-i.result.now.value in
+    let is : c.deref-in-loop-i.result.now ≡ layer = search rules in
+    changed_more t c.args.stack.now.0 c.loop-i.i layer (is_among t c.loop-i.log.items) (is_among t c.note_terms.new.terms.items) c.loop-i.auto.i c.layer-in-loop-i.ensures (c.loop-i.invariant t)
     (c.in_ok-note_terms.ensures {u = tt} t ∙ ap (λ l. is_among t c.loop-i.log.items || has_term t l) is)
 
 pub last_words-requires : goal.last_words-requires
