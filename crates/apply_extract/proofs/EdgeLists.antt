@@ -31,7 +31,7 @@ use Rattle.uni_meaning.proofs.Typed.{target_is}
 use Rattle.posting_lists.specs.declared.posting.Posting.{Posting}
 use Rattle.posting_lists.specs.Postings.{keys_of}
 use Rattle.shard_index.specs.Laws.{edge_to, posting_to}
-use Rattle.shard_index.specs.Split.{lists_of}
+use Rattle.apply_extract.specs.Split.{lists_of}
 use Rattle.shard_index.proofs.Squeezed.{number_itself}
 use Rattle.shard_eval.specs.Meant.{edges_into}
 use Rattle.apply_extract.specs.Edges.{AreInOrder, edges_by_shard, posting_in, postings_by_shard, record_items}

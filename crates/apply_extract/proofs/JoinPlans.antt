@@ -18,7 +18,7 @@ use Rattle.uni_schema.specs.declared.schema.Store.TheVariants.{Forward}
 use Rattle.uni_meaning.specs.Hits.{shards_of, target_of}
 use Rattle.uni_meaning.proofs.Typed.{target_is}
 use Rattle.shard_index.specs.Places.{shards_in}
-use Rattle.shard_index.specs.Split.{lists_of}
+use Rattle.apply_extract.specs.Split.{lists_of}
 use Rattle.apply_extract.specs.Edges.{edges_by_shard}
 use Rattle.shard_eval.specs.declared.resolved.InnerHit.{InnerHit}
 use Rattle.shard_eval.specs.Meant.{edges_into, AreOfCut, StandsFor as IsMeant}

@@ -14,4 +14,5 @@ mod ReadVersions
 mod Shares
 mod ShownHits
 mod SortedPostings
+mod SplitLists
 mod Tops

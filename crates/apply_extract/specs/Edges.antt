@@ -15,7 +15,7 @@ use Rattle.posting_lists.specs.Postings.{keys_of}
 use Rattle.forward_data.specs.declared.record.ForwardItem.{ForwardItem}
 use Rattle.shard_index.specs.Laws.{rank_in_shard}
 use Rattle.shard_index.specs.Shards.{item_of}
-use Rattle.shard_index.specs.Split.{split_by}
+use Rattle.apply_extract.specs.Split.{split_by}
 use Rattle.shard_eval.specs.Meant.{edges_into}
 
 -- the edges of a type from an entity, in the order of their targets

@@ -7,3 +7,4 @@ pub mod Hits
 pub mod Laws
 pub mod Parts
 pub mod Shown
+pub mod Split

@@ -14,7 +14,7 @@ ghost use Rattle.uni_meaning.specs.Hits.{shards_of};
 ghost use Rattle.posting_lists.specs.declared.posting.Posting.{Posting};
 ghost use Rattle.posting_lists.specs.Postings.{keys_of};
 ghost use Rattle.shard_index.specs.Laws.{rank_in_shard};
-ghost use Rattle.shard_index.specs.Split.{empty_lists_of, lists_of, with_item};
+ghost use Rattle.apply_extract.specs.Split.{empty_lists_of, lists_of, with_item};
 ghost use Rattle.viewer_policy.specs.Judged.{StandsFor};
 ghost use Rattle.apply_extract.specs.Edges.{AreInOrder, edges_by_shard, posting_in, postings_by_shard, record_items};
 

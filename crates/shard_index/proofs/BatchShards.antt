@@ -31,8 +31,9 @@ use Rattle.shard_index.specs.Shards.{shard_rows}
 use Rattle.shard_index.proofs.ChangedEntities.{entities_turned}
 use Rattle.shard_index.proofs.ChangedPostings.{postings_turned}
 use Rattle.shard_index.proofs.ChangedRecords.{records_turned}
-use Rattle.shard_index.proofs.FewEntries.{few_entries}
+use Rattle.shard_index.proofs.FewEntries.{few_entries, FromChanges}
 use Rattle.shard_index.proofs.LoggedMaps.{equal_of}
+use Rattle.shard_index.proofs.OnlyChanged.{changes_only}
 
 -- ---- the types of edges that changed are declared
 
@@ -86,13 +87,15 @@ module _ (table : TableState) (old_kept : IsKept table.schema table.limits table
   noted_takes place notes noted =
       let schema = table.schema in let old = table.published in let new = table.contents in let v = place.vertical in let s = place.shard in
       let entities : notes.entities ≡ shard_entities schema v s es = λ i. record { deletes = noted.removals i; puts = noted.puts i } in
+      let from : FromChanges schema old new v s es cs (noted_layer notes) = record { entities = entities; postings = noted.postings; records = noted.records } in
       record {
         rows = parts_take (shard_rows schema old v s) (shard_rows schema new v s) (noted_layer notes) (record {
           entities = ap (table_over (shard_rows schema old v s).entities) entities ∙ entities_turned old new es changed schema table.limits v s old_kept kept;
           postings = ap (table_over (shard_rows schema old v s).postings) noted.postings ∙ postings_turned schema table.limits old new v s old_kept kept cs are;
           records = records_turned schema v s table.limits old new old_kept kept cs are notes.records noted.records;
         });
-        few = few_entries schema table.limits old new v s old_kept kept es changed cs are (noted_layer notes) (record { entities = entities; postings = noted.postings; records = noted.records });
+        only = changes_only schema table.limits old new v s old_kept kept cs are es changed (noted_layer notes) from;
+        few = few_entries schema table.limits old new v s old_kept kept es changed cs are (noted_layer notes) from;
       }
 
   all_take : (places : List ShardPlace) (notes : List ShardNotes) → AllZip (IsNoted table es es cs) places notes → TakeOver table places (map noted_layer notes)

@@ -144,7 +144,7 @@ module _ (schema : Declarations) (vertical shard : ℕ) where
 
   module _ (table : Contents) where
     -- the shard has none of the other records
-    absent : (q : RecordKey) → is_own q ≡ false → finite.get (shard_rows schema table vertical shard).records q ≡ None
+    pub absent : (q : RecordKey) → is_own q ≡ false → finite.get (shard_rows schema table vertical shard).records q ≡ None
     unfolding shard_rows
     absent q other = logged_is record_cmp q None record_total (filter_map (record_row schema all) all) (agree table.edges) (λ e. refl)
       where

@@ -85,12 +85,12 @@ module _ (schema : Declarations) (limits : Limits) (old new : Contents) (vertica
       let same : j ≡ k = ap (λ (o : Option (Place × Audience)). option_map_or (λ x. x.0) o j) both in
       subst (λ (x : Place). eq_by_cmp place_cmp j x ≡ true) same (ap is_eq (tied_itself place_total j))
 
-  deleted : (q : Place) → finite.contains_key (shard_postings schema vertical shard cs).deletes q ≡ true
+  pub deleted : (q : Place) → finite.contains_key (shard_postings schema vertical shard cs).deletes q ≡ true
       → (not (same_rows same_audience (at_place q (edge_posting schema old vertical shard (named q))) (at_place q (edge_posting schema new vertical shard (named q)))) ≡ true) × (is_some (at_place q (edge_posting schema old vertical shard (named q))) ≡ true)
   deleted q = deleted_differs place_total place_apart same_audience exact_audience audience_itself q (was schema limits old new vertical shard old_kept new_kept cs are) (now schema limits old new vertical shard old_kept new_kept cs are) cs
       (before schema limits old new vertical shard old_kept new_kept cs are q) (after schema limits old new vertical shard old_kept new_kept cs are q) (changes schema limits old new vertical shard old_kept new_kept cs are q)
 
-  put : (q : Place) → finite.contains_key (shard_postings schema vertical shard cs).puts q ≡ true
+  pub put : (q : Place) → finite.contains_key (shard_postings schema vertical shard cs).puts q ≡ true
       → (not (same_rows same_audience (at_place q (edge_posting schema old vertical shard (named q))) (at_place q (edge_posting schema new vertical shard (named q)))) ≡ true) × (is_some (at_place q (edge_posting schema new vertical shard (named q))) ≡ true)
   put q = added_differs place_total place_apart same_audience exact_audience audience_itself q (was schema limits old new vertical shard old_kept new_kept cs are) (now schema limits old new vertical shard old_kept new_kept cs are) cs
       (before schema limits old new vertical shard old_kept new_kept cs are q) (after schema limits old new vertical shard old_kept new_kept cs are q) (changes schema limits old new vertical shard old_kept new_kept cs are q)

@@ -61,7 +61,7 @@ audience_read table q edge starts =
 -- ---- the records of a shard
 
 module _ (schema : Declarations) (limits : Limits) (old new : Contents) (vertical shard : ℕ) (cs : List EdgeChange) (are : AreEdgeChanges old new cs) where
-  record IsMoved (q : RecordKey) : Type 0 where
+  pub record IsMoved (q : RecordKey) : Type 0 where
     edge : EdgeRef
     starts : starts_at q.type_no (Id q.id) edge ≡ true
     own_is : is_own schema vertical shard q ≡ true
@@ -113,7 +113,7 @@ module _ (schema : Declarations) (limits : Limits) (old new : Contents) (vertica
       by (i ∷ items) f = refl
 
   -- it differs
-  unlike : (q : RecordKey) (is : IsMoved q) → not (same_items (record_at (shard_rows schema old vertical shard) q) (record_at (shard_rows schema new vertical shard) q)) ≡ true
+  pub unlike : (q : RecordKey) (is : IsMoved q) → not (same_items (record_at (shard_rows schema old vertical shard) q) (record_at (shard_rows schema new vertical shard) q)) ≡ true
   unlike q is = by (same_items (record_at (shard_rows schema old vertical shard) q) (record_at (shard_rows schema new vertical shard) q)) refl
     where
       alike : (a : Option Audience) → same_audiences a a ≡ true
@@ -140,14 +140,18 @@ module _ (schema : Declarations) (limits : Limits) (old new : Contents) (vertica
           of_second record_total record_apart (λ key. not (same_items (record_at (shard_rows schema old vertical shard) key) (record_at (shard_rows schema new vertical shard) key)))
           (finite.keys (shard_rows schema old vertical shard).records) (finite.keys (shard_rows schema new vertical shard).records) q (unlike q is) (has new q is.own_is is.edge is.starts (ap is_some f))
 
-  pub few_records : (layer : Records) → AreShardRecords schema vertical shard new cs layer → finite.len layer ≤ length (moved_records schema old new vertical shard)
-  few_records layer is =
-      few_keys record_total record_total record_apart layer (λ q. q) (moved_records schema old new vertical shard)
-      (λ q t. listed q (moved q cs (recursion_from_All (Contains cs) cs (All-contains_itself cs)) (by q (is_among schema vertical shard cs q) refl t)))
-      (λ j k s t e. e)
+  -- a record that the layer replaces is one that moved
+  pub replaced : (layer : Records) → AreShardRecords schema vertical shard new cs layer → (q : RecordKey) → finite.contains_key layer q ≡ true → IsMoved q
+  replaced layer is q t = moved q cs (recursion_from_All (Contains cs) cs (All-contains_itself cs)) (by q (is_among schema vertical shard cs q) refl t)
     where
       by : (q : RecordKey) (b : Bool) → is_among schema vertical shard cs q ≡ b → finite.contains_key layer q ≡ true → is_among schema vertical shard cs q ≡ true
       by q true e t = e
       by q false e t =
           let none : finite.contains_key layer q ≡ false = ap is_some (is q ∙ ap (λ b. if b then Some (items_of new q) else None) e) in
           let clash : true ≡ false = sym t ∙ none in absurd cc
+
+  pub few_records : (layer : Records) → AreShardRecords schema vertical shard new cs layer → finite.len layer ≤ length (moved_records schema old new vertical shard)
+  few_records layer is =
+      few_keys record_total record_total record_apart layer (λ q. q) (moved_records schema old new vertical shard)
+      (λ q t. listed q (replaced layer is q t))
+      (λ j k s t e. e)

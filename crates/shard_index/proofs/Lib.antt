@@ -6,6 +6,7 @@ pub mod ChangedPostings
 pub mod ChangedRecords
 pub mod Counted
 pub mod Differing
+pub mod EmptyParts
 pub mod EntityRows
 pub mod Exact
 pub mod FewEntities
@@ -21,6 +22,7 @@ pub mod KeptShards
 pub mod LoggedMaps
 pub mod MergedTables
 pub mod OneNoted
+pub mod OnlyChanged
 pub mod PostedRows
 pub mod ReachedItems
 pub mod ReadEdges
@@ -34,7 +36,6 @@ pub mod RecordsNoted
 pub mod SameItems
 pub mod SameLists
 pub mod ShardNumbers
-pub mod SplitLists
 pub mod Squeezed
 pub mod StackLaws
 pub mod StackPlaces

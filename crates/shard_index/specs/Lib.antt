@@ -10,6 +10,5 @@ pub mod Numbers
 pub mod Places
 pub mod Rows
 pub mod Shards
-pub mod Split
 pub mod Touched
 pub mod Versions

@@ -41,9 +41,10 @@ pub fn batch_layers(alloc: Global, table: &Table) -> Result<Vec<ShardLayer>, All
 fn layers(alloc: Global, notes: Vec<ShardNotes>) -> Result<Vec<ShardLayer>, AllocError>
     ensures { IfOk result (λ layers. layers.items ≡ map noted_layer notes.items) }
 {
+    let empty = ShardLayer::empty(alloc)?;
     let mut layers = Vec::with_capacity(alloc, notes.len())?;
     for shard in notes {
-        layers.push(shard.layer(alloc)?)?;
+        layers.push(shard.layer(alloc, &empty)?)?;
     }
     Ok(layers)
 }

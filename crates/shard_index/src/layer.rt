@@ -1,4 +1,8 @@
 ghost use Rattle.std.specs.Prelude.{◌≡◌, IfOk};
+ghost use Rattle.std.specs.Arc.{arc_value};
+ghost use Rattle.std.specs.FinMap as finite;
+ghost use Rattle.layer_stack.specs.Postings.{no_changes};
+ghost use Rattle.shard_index.specs.Entities.{no_entities};
 ghost use Rattle.shard_index.specs.Rows.{layer_of, empty_layer, entries};
 
 use crate::{EntityDelta, EntityLayer};
@@ -59,6 +63,24 @@ impl ShardLayer {
         ))
     }
 
+    // The layer of three parts. For a part without entries it shares that of an empty layer.
+    pub(crate) fn of_parts(
+        alloc: Global,
+        entities: EntityLayer,
+        postings: Layer,
+        forward: ForwardLayer,
+        empty: &ShardLayer,
+    ) -> Result<ShardLayer, AllocError>
+        requires { empty.now ≡ empty_layer }
+        ensures { IfOk result (λ layer. layer ≡ layer_of entities postings forward) }
+    {
+        Ok(ShardLayer {
+            entities: entities_part(alloc, entities, &empty.entities)?,
+            postings: postings_part(alloc, postings, &empty.postings)?,
+            forward: forward_part(alloc, forward, &empty.forward)?,
+        })
+    }
+
     /// An equal layer over the same three parts.
     pub fn share(&self) -> Result<ShardLayer, AllocError>
         ensures { IfOk result (λ layer. layer ≡ self.now) }
@@ -76,4 +98,45 @@ impl ShardLayer {
     {
         self.entities.entries() + self.postings.entries() + self.forward.entries()
     }
+}
+
+// Entities of a layer: the empty ones, shared, where there are no entries.
+fn entities_part(
+    alloc: Global,
+    part: EntityLayer,
+    empty: &Arc<EntityLayer>,
+) -> Result<Arc<EntityLayer>, AllocError>
+    requires { arc_value empty.now ≡ no_entities }
+    ensures { IfOk result (λ shared. arc_value shared ≡ part) }
+{
+    if part.entries() == 0 {
+        return Ok(Arc::try_clone(empty)?);
+    }
+    Ok(Arc::new(alloc, part)?)
+}
+
+// Postings of a layer: the empty ones, shared, where there are no entries.
+fn postings_part(alloc: Global, part: Layer, empty: &Arc<Layer>) -> Result<Arc<Layer>, AllocError>
+    requires { arc_value empty.now ≡ no_changes }
+    ensures { IfOk result (λ shared. arc_value shared ≡ part) }
+{
+    if part.entries() == 0 {
+        return Ok(Arc::try_clone(empty)?);
+    }
+    Ok(Arc::new(alloc, part)?)
+}
+
+// Forward records of a layer: the empty ones, shared, where there are none.
+fn forward_part(
+    alloc: Global,
+    part: ForwardLayer,
+    empty: &Arc<ForwardLayer>,
+) -> Result<Arc<ForwardLayer>, AllocError>
+    requires { arc_value empty.now ≡ finite.empty }
+    ensures { IfOk result (λ shared. arc_value shared ≡ part) }
+{
+    if part.entries() == 0 {
+        return Ok(Arc::try_clone(empty)?);
+    }
+    Ok(Arc::new(alloc, part)?)
 }

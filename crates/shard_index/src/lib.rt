@@ -23,4 +23,5 @@ pub use delta::EntityDelta;
 pub use entities::EntityLayer;
 pub use index::{ShardIndex, TermCursor};
 pub use layer::ShardLayer;
+pub use places::stack_no;
 pub use version::Version;

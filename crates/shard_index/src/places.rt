@@ -24,8 +24,8 @@ pub(crate) fn stack_count(schema: &Schema) -> usize
     stacks_before(schema, schema.verticals())
 }
 
-// The number of a stack, in order of vertical, shard and replica.
-pub(crate) fn stack_no(schema: &Schema, vertical: u16, shard: u32, replica: u32) -> usize
+/// The number of a stack of a version, in order of vertical, shard and replica, from 0 on.
+pub fn stack_no(schema: &Schema, vertical: u16, shard: u32, replica: u32) -> usize
     requires { IsStack schema.now vertical shard replica }
     ensures no { result ≡ stack_no schema.now vertical shard replica }
     ensures within { result < stack_count schema.now }

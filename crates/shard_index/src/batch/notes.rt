@@ -3,12 +3,12 @@ ghost use Rattle.std.specs.Prelude.{◌≡◌, length, replicate, IfOk, OnOk};
 ghost use Rattle.shard_index.specs.Batches.{all_shards};
 ghost use Rattle.shard_index.specs.Numbers.{AreFirsts};
 ghost use Rattle.shard_index.specs.Notes.{no_notes, with_removal, with_put, noted_layer};
+ghost use Rattle.shard_index.specs.Rows.{empty_layer};
 
 use crate::{EntityDelta, EntityLayer, ShardLayer};
 use forward_data::{ForwardDelta, ForwardLayer, RecordKey};
 use layer_stack::{Delta, Layer};
 use std::alloc::{AllocError, Global};
-use std::sync::Arc;
 use uni_base::{EntityId, Rank};
 use uni_schema::Schema;
 
@@ -48,8 +48,9 @@ impl ShardNotes {
         self.entities.put(id, rank)
     }
 
-    /// The layer of what was noted.
-    pub(super) fn layer(self, alloc: Global) -> Result<ShardLayer, AllocError>
+    /// The layer of what was noted. For what nothing was noted of it shares the part of an empty layer.
+    pub(super) fn layer(self, alloc: Global, empty: &ShardLayer) -> Result<ShardLayer, AllocError>
+        requires { empty.now ≡ empty_layer }
         ensures { IfOk result (λ layer. layer ≡ noted_layer self) }
     {
         let ShardNotes {
@@ -61,11 +62,7 @@ impl ShardNotes {
         let entities = EntityLayer::build(entities)?;
         let postings = Layer::build(alloc, postings)?;
         let forward = ForwardLayer::build(records)?;
-        Ok(ShardLayer::join(
-            Arc::new(alloc, entities)?,
-            Arc::new(alloc, postings)?,
-            Arc::new(alloc, forward)?,
-        ))
+        ShardLayer::of_parts(alloc, entities, postings, forward, empty)
     }
 }
 

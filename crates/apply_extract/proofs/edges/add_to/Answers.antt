@@ -1,4 +1,4 @@
-use Rattle.shard_index.proofs.SplitLists.{pushed}
+use Rattle.apply_extract.proofs.SplitLists.{pushed}
 use Rattle.apply_extract.proofs.edges.add_to.Goals as goal
 
 pub returns : goal.returns

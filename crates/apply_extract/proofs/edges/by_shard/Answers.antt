@@ -4,8 +4,8 @@ use Rattle.uni_schema.specs.declared.schema.VerticalDef.{VerticalDef}
 use Rattle.uni_schema.specs.Schema.{shard_of}
 use Rattle.uni_meaning.specs.Hits.{shards_of}
 use Rattle.posting_lists.specs.declared.posting.Posting.{Posting}
-use Rattle.shard_index.specs.Split.{with_item, empty_lists_of}
-use Rattle.shard_index.proofs.SplitLists.{as_many, split_more}
+use Rattle.apply_extract.specs.Split.{with_item, empty_lists_of}
+use Rattle.apply_extract.proofs.SplitLists.{as_many, split_more}
 use Rattle.viewer_policy.proofs.Edges.{first_replica}
 use Rattle.apply_extract.proofs.edges.by_shard.Goals as goal
 

@@ -1,5 +1,5 @@
 use Rattle.std.proofs.Common.{◌≡◌, take}
-use Rattle.shard_index.specs.Split.{lists_of}
+use Rattle.apply_extract.specs.Split.{lists_of}
 use Rattle.apply_extract.specs.Edges.{postings_by_shard}
 use Rattle.apply_extract.proofs.edges.by_shard.Given as goal
 

@@ -6,7 +6,7 @@ use Rattle.uni_schema.specs.Schema.{Declarations, IsSchema, shard_of}
 use Rattle.uni_meaning.specs.Hits.{shards_of}
 use Rattle.posting_lists.specs.declared.posting.Posting.{Posting}
 use Rattle.posting_lists.specs.Postings.{keys_of}
-use Rattle.shard_index.proofs.SplitLists.{as_many}
+use Rattle.apply_extract.proofs.SplitLists.{as_many}
 use Rattle.apply_extract.specs.Edges.{AreInOrder, posting_in, postings_by_shard}
 use Rattle.apply_extract.proofs.EdgeLists.{is_forward, lists_ranked, parted_edges}
 use Rattle.apply_extract.proofs.edges.edges_from.Goals as goal

@@ -1,6 +1,6 @@
 use Rattle.std.proofs.Common.{ap, ◌∙◌}
-use Rattle.shard_index.specs.Split.{lists_of}
-use Rattle.shard_index.proofs.SplitLists.{empty_more}
+use Rattle.apply_extract.specs.Split.{lists_of}
+use Rattle.apply_extract.proofs.SplitLists.{empty_more}
 use Rattle.apply_extract.proofs.edges.empty_lists.Goals as goal
 
 pub loop-preserved : goal.loop-preserved

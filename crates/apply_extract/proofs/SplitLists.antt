@@ -7,7 +7,7 @@ use Rattle.std.proofs.lemmas.List.FromFn.{length-map-range_with_len, map-range_w
 use Rattle.std.specs.declared.vec.Vec.{Vec}
 use Rattle.std.specs.Global.{Global}
 use Rattle.std.specs.List.{range_with_len}
-use Rattle.shard_index.specs.Split.{is_shard, with_item, split_by, lists_of, empty_lists_of}
+use Rattle.apply_extract.specs.Split.{is_shard, with_item, split_by, lists_of, empty_lists_of}
 
 not_same : (a b : ℕ) → a < b → (a == b) ≡ false
 not_same a b below = grind (arith, nat_tests)
