@@ -16,6 +16,10 @@ use uni_table::Table;
 const HEADER: &[u8] =
     b"unicorn 2|vertical user 2 2|vertical photo 1 1|type friend user user both index|type lives word user target index|type tagged user photo source index|type shows photo user source forward|type blocked user user source index|deny blocked|begin";
 
+// The same without a type that denies.
+const NO_DENY: &[u8] =
+    b"unicorn 2|vertical user 2 2|vertical photo 1 1|type friend user user both index|type lives word user target index|type tagged user photo source index|type shows photo user source forward|type blocked user user source index|begin";
+
 // User 3 blocks user 6, and user 2 blocks user 5.
 const ROWS: &[u8] =
     b"entity user 1 50|entity user 2 90|entity user 3 90|entity user 4 10|entity user 5 70|entity user 6 60|entity photo 101 5|entity photo 102 9|edge friend 1 2 public|edge friend 1 3 public|edge friend 1 5 public|edge lives rome 2 public|edge lives rome 4 public|edge lives rome 5 public|edge lives rome 6 public|edge tagged 2 101 public|edge tagged 3 102 public|edge tagged 5 102 public|edge shows 102 4 public|edge shows 102 1 public|edge blocked 3 6 public|edge blocked 2 5 public";
@@ -38,16 +42,20 @@ const CIRCLES: &[u8] =
 // Of an edge of a type that is not declared nobody is an owner.
 const UNKNOWN: &[u8] = b"9 1 2 only//1 2 3;9 1 2 public/1 5 9/;9 1 2 1:rome/2 6/1";
 
+// Where no type denies, that a user blocks another is an edge as any, and whom it blocks sees what others see.
+const UNDENIED: &[u8] =
+    b"0 1 2 public/1 2 5 6 9/;2 3 102 public/1 2 5 6/;0 3 6 only/3 6/1 2;1 rome 2 1:rome/2 4 5 6/1;4 3 6 only/3/6 1";
+
 // Before the first publish nobody denies, and circles have no members.
 const NOTHING: &[u8] = b"0 1 2 only/1 2/3;0 1 2 public/5 9/;2 4 101 1:rome/4/2 6";
 
-fn schema(alloc: Global) -> Result<Schema, Fail> {
-    let mut header = HeaderReader::new(alloc, Limits::standard());
-    let mut rest = HEADER;
+fn schema(alloc: Global, header: &[u8]) -> Result<Schema, Fail> {
+    let mut reader = HeaderReader::new(alloc, Limits::standard());
+    let mut rest = header;
     for line_no in 1..=20 {
         let (line, others) = cut_at(rest, b'|').unwrap_or((rest, b""));
-        match header.take(line_no, line) {
-            Ok(true) => return Ok(header.schema()),
+        match reader.take(line_no, line) {
+            Ok(true) => return Ok(reader.schema()),
             Ok(false) => rest = others,
             Err(_) => return Err("no header")?,
         }
@@ -63,8 +71,8 @@ fn is_put(table: &mut Table, line: &[u8]) -> bool {
     table.put(&command).is_ok()
 }
 
-fn small(rt: &impl Abort, alloc: Global) -> Result<Version, Fail> {
-    let schema = Arc::new(alloc, schema(alloc)?)?;
+fn small(rt: &impl Abort, alloc: Global, header: &[u8]) -> Result<Version, Fail> {
+    let schema = Arc::new(alloc, schema(alloc, header)?)?;
     let mut table = Table::new(alloc, schema, Limits::standard());
     for line in ROWS.split(|byte| *byte == b'|') {
         assert!(rt; is_put(&mut table, line));
@@ -143,21 +151,21 @@ fn follow(rt: &impl Abort, version: &Version, steps: &[u8]) {
 
 #[test]
 fn an_owner_sees_its_edges(rt: HostRuntime) -> Result<(), Fail> {
-    let version = small(&rt, rt.alloc())?;
+    let version = small(&rt, rt.alloc(), HEADER)?;
     follow(&rt, &version, OWNERS);
     Ok(())
 }
 
 #[test]
 fn a_denial_comes_before_the_audience(rt: HostRuntime) -> Result<(), Fail> {
-    let version = small(&rt, rt.alloc())?;
+    let version = small(&rt, rt.alloc(), HEADER)?;
     follow(&rt, &version, DENIED);
     Ok(())
 }
 
 #[test]
 fn a_circle_admits_its_members(rt: HostRuntime) -> Result<(), Fail> {
-    let version = small(&rt, rt.alloc())?;
+    let version = small(&rt, rt.alloc(), HEADER)?;
     follow(&rt, &version, CIRCLES);
     follow(&rt, &version, UNKNOWN);
     Ok(())
@@ -166,7 +174,14 @@ fn a_circle_admits_its_members(rt: HostRuntime) -> Result<(), Fail> {
 #[test]
 fn an_empty_version_denies_nobody(rt: HostRuntime) -> Result<(), Fail> {
     let alloc = rt.alloc();
-    let version = Version::empty(alloc, Arc::new(alloc, schema(alloc)?)?)?;
+    let version = Version::empty(alloc, Arc::new(alloc, schema(alloc, HEADER)?)?)?;
     follow(&rt, &version, NOTHING);
+    Ok(())
+}
+
+#[test]
+fn without_such_a_type_nobody_denies(rt: HostRuntime) -> Result<(), Fail> {
+    let version = small(&rt, rt.alloc(), NO_DENY)?;
+    follow(&rt, &version, UNDENIED);
     Ok(())
 }
