@@ -1,15 +1,38 @@
-ghost use Rattle.std.specs.Prelude.{◌≡◌, [], ◌∷◌, ◌++◌, length, take, OnOk, OnErr};
+//! The commands of a batch, which contracts alone see.
+ghost use Rattle.std.specs.Prelude.{◌≡◌, ◌∷◌, ◌++◌, []};
 
-use packed_command::PackedCommand;
-use std::alloc::{AllocError, Global};
 use std::marker::Model;
+use std::mem;
+use std::snapshot::Snapshot;
 use uni_table::Command;
 
-/// The commands that are accepted and not published yet, in order. Contracts see the list of them.
+// Commands in order: none, or others and one more.
+#[derive(Drop)]
+struct Commands {
+    more: Option<(Snapshot<Commands>, Command)>,
+}
+
+impl Model for Commands {
+    ghost use Rattle.std.specs.Prelude.{List, length, [], ◌∷◌, ◌++◌};
+    ghost use Rattle.std.specs.Option.{option_map_or};
+    ghost use Rattle.uni_table.specs.declared.command.Command.{Command};
+
+    ghost Value = { List Command };
+
+    ghost view = { λ c. option_map_or (λ m. m.0.value ++ m.1 ∷ []) c.more [] };
+
+    ghost size = { length };
+
+    ghost use Rattle.std.proofs.Common.{arith, length-append};
+
+    ghost size_decreases = { λ c h. Prim.grind (arith, length-append) };
+}
+
+/// The commands that are accepted and not published yet, in order. It takes no memory: what they did is in
+/// the feeder's table, and the list is there for contracts, which see it.
 #[derive(Drop)]
 pub struct Batch {
-    alloc: Global,
-    commands: Vec<PackedCommand>,
+    commands: Snapshot<Commands>,
 }
 
 impl Model for Batch {
@@ -18,55 +41,26 @@ impl Model for Batch {
 
     ghost Value = { List Command };
 
-    ghost view = { λ b. b.commands.items };
+    ghost view = { λ b. b.commands.value };
 }
 
 impl Batch {
     /// The batch without commands.
-    pub fn new(alloc: Global) -> Batch
+    pub fn new() -> Batch
         ensures { result ≡ [] }
     {
         Batch {
-            alloc,
-            commands: Vec::new(alloc),
+            commands: Snapshot::of(&Commands { more: None }),
         }
     }
 
-    /// Adds a command at the end. A batch that finds no memory stays as it was.
-    pub fn push(&mut self, command: Command) -> Result<(), AllocError>
-        ensures ok { OnOk result (self.new ≡ self.old ++ command ∷ []) }
-        ensures err { OnErr result (self.new ≡ self.old) }
+    /// Adds a command at the end.
+    pub fn push(&mut self, command: Command)
+        ensures { self.new ≡ self.old ++ command ∷ [] }
     {
-        let packed = PackedCommand::of(self.alloc, &command)?;
-        add(&mut self.commands, packed)
+        let before = mem::replace(&mut self.commands, Batch::new().commands);
+        self.commands = Snapshot::of(&Commands {
+            more: Some((before, command)),
+        });
     }
-
-    /// How many commands it has.
-    pub fn len(&self) -> usize
-        ensures { result ≡ length self.now }
-    {
-        self.commands.len()
-    }
-
-    pub fn as_slice(&self) -> &[PackedCommand]
-        ensures { result.now ≡ self.now }
-    {
-        self.commands.as_slice()
-    }
-
-    // Keeps the first commands.
-    pub(crate) fn truncate(&mut self, len: usize)
-        ensures { self.new ≡ take len self.old }
-    {
-        self.commands.truncate(len);
-    }
-}
-
-// An item at the end of others.
-fn add<T: Drop>(items: &mut Vec<T>, item: T) -> Result<(), AllocError>
-    ensures ok { OnOk result (items.new.items ≡ items.old.items ++ item ∷ []) }
-    ensures err { OnErr result (items.new.items ≡ items.old.items) }
-{
-    items.push(item)?;
-    Ok(())
 }

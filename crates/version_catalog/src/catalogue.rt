@@ -52,7 +52,7 @@ impl Catalogue {
         let feeder = Feeder {
             seat,
             table,
-            batch: Batch::new(alloc),
+            batch: Batch::new(),
             publishes: 0,
         };
         let catalogue = Catalogue {

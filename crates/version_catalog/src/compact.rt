@@ -7,7 +7,7 @@ use std::alloc::AllocError;
 use std::sync::Wait;
 
 impl Catalogue {
-    ghost use Rattle.std.specs.Prelude.{◌≡◌, ◌+◌, ◌^◌, ◌<◌, ◌≤◌, length, IfOk};
+    ghost use Rattle.std.specs.Prelude.{◌≡◌, ◌+◌, ◌^◌, ◌<◌, ◌≤◌, length, IfOk, OnOk};
     ghost use mathlib.Core.List.{IsPrefix};
     ghost use Rattle.shard_index.specs.Places.{IsStack};
     ghost use Rattle.version_catalog.specs.Seats.{settings_of, compactor_journal, compactor_turns, IsCompactorOf};
@@ -29,6 +29,7 @@ impl Catalogue {
         requires stack { IsStack (settings_of self.now).schema vertical shard replica }
         ensures of { IsCompactorOf self.now compactor.new }
         ensures turns { compactor_turns compactor.new ≤ compactor_turns compactor.old + 2 }
+        ensures worked { OnOk result (compactor_turns compactor.new ≡ compactor_turns compactor.old + 2) }
         ensures later { IsPrefix (compactor_journal compactor.old) (compactor_journal compactor.new) }
         ensures least { IfOk result (λ covers. length (compactor_journal compactor.old) ≤ covers) }
         ensures most { IfOk result (λ covers. covers ≤ length (compactor_journal compactor.new)) }

@@ -85,13 +85,7 @@ fn add(table: &mut Table, batch: &mut Batch, command: &Command) -> Result<(), Fe
     ensures refused { IfErr result (λ refusal. (refusal ≡ FeedRefusal.Memory) ⊎ (refuses table.old.schema table.old.limits table.old.contents command.now ≡ Some refusal)) }
     ensures err { OnErr result ((table.new ≡ table.old) × (batch.new ≡ batch.old)) }
 {
-    let before = batch.len();
-    batch.push(*command)?;
-    match table.put(command) {
-        Ok(()) => Ok(()),
-        Err(refusal) => {
-            batch.truncate(before);
-            Err(refusal)
-        }
-    }
+    table.put(command)?;
+    batch.push(*command);
+    Ok(())
 }

@@ -60,7 +60,7 @@ impl Catalogue {
         let mut turn = self.lock.enter_writer(rt, &mut feeder.seat);
         match publish_turn(self.alloc, &mut turn.value, &feeder.batch, layers) {
             Ok(number) => {
-                let batch = mem::replace(&mut feeder.batch, Batch::new(self.alloc));
+                let batch = mem::replace(&mut feeder.batch, Batch::new());
                 self.lock
                     .leave_with_entry(&mut feeder.seat, turn, &Entry::Published(batch));
                 feeder.table.end(number);

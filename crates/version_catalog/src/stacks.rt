@@ -1,9 +1,8 @@
 //! Stacks with one layer more, and a stack with one layer in place of its first.
-ghost use Rattle.std.specs.Prelude.{◌≡◌, ◌+◌, ◌*◌, ◌<◌, ◌≤◌, [], ◌∷◌, ◌++◌, length, drop, replicate, set, get_or, IfOk, OnOk};
+ghost use Rattle.std.specs.Prelude.{◌≡◌, ◌+◌, ◌<◌, [], ◌∷◌, ◌++◌, length, drop, replicate, set, get_or, IfOk, OnOk};
 ghost use Rattle.std.specs.List.{flat_map};
 ghost use Rattle.std.specs.Arc.{arc_value};
 ghost use Rattle.shard_index.specs.Batches.{all_shards};
-ghost use Rattle.shard_index.specs.Places.{IsStack, stack_no, stacks_before, stack_count};
 ghost use Rattle.shard_index.specs.Versions.{AreStacks, layers_of};
 ghost use Rattle.version_catalog.specs.Spread.{spread, with_layers};
 
@@ -11,30 +10,6 @@ use shard_index::{ShardIndex, ShardLayer, Version};
 use std::alloc::{AllocError, Global};
 use std::sync::Arc;
 use uni_schema::Schema;
-
-// How many stacks the verticals before a number have.
-fn stacks_before(schema: &Schema, vertical: u16) -> usize
-    requires { vertical ≤ length schema.now.verticals }
-    ensures count { result ≡ stacks_before schema.now vertical }
-    ensures few { result ≤ 256 * vertical }
-{
-    let mut count = 0;
-    for no in 0..vertical {
-        let declared = schema.vertical(no);
-        count += declared.shards as usize * declared.replicas as usize;
-    }
-    count
-}
-
-// The number of a stack, in order of vertical, shard and replica.
-pub(crate) fn stack_no(schema: &Schema, vertical: u16, shard: u32, replica: u32) -> usize
-    requires { IsStack schema.now vertical shard replica }
-    ensures no { result ≡ stack_no schema.now vertical shard replica }
-    ensures within { result < stack_count schema.now }
-{
-    let replicas = schema.vertical(vertical).replicas;
-    stacks_before(schema, vertical) + shard as usize * replicas as usize + replica as usize
-}
 
 // The version with one publish and one layer on each stack more.
 pub(crate) fn longer_version(

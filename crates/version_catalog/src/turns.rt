@@ -4,9 +4,9 @@ ghost use Rattle.version_catalog.specs.Refused.{IsRefused};
 ghost use Rattle.version_catalog.specs.States.{version_in, limits_in};
 ghost use Rattle.version_catalog.specs.Turns.{MayGain, GainsBatch, HasPublished, MayInstall, KeepsJournal, HasInstalled};
 
-use crate::stacks::{fronted_version, longer_version, stack_no};
+use crate::stacks::{fronted_version, longer_version};
 use crate::{Batch, CatalogueState, PublishRefusal};
-use shard_index::ShardLayer;
+use shard_index::{ShardLayer, stack_no};
 use std::alloc::{AllocError, Global};
 
 /// The layers of a batch, one for each shard, in order of vertical and shard. All replicas of a shard take
