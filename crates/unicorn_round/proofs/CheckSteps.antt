@@ -28,7 +28,7 @@ use Rattle.unicorn_round.specs.Plain.{plain_mark}
 use Rattle.unicorn_round.specs.Records.{IsMarked}
 use Rattle.unicorn_round.specs.Stacks.{is_due, rows_of, tidy_answer, tidy_answers}
 use Rattle.unicorn_round.proofs.LineByLine.{none_done, one_more_done, marks_each, round_more_done}
-use Rattle.unicorn_round.proofs.SerialSteps.{lt_true, lt_false, after_lacking, reading_lacks}
+use Rattle.unicorn_round.proofs.SerialSteps.{lt_true, lt_false, after_lacking, reading_lacks, reading_may}
 use Rattle.round_feed.proofs.Steps.{given-snoc}
 use Rattle.unicorn_round.proofs.Texts.{text_of-append, lines_of_answers-append}
 
@@ -107,19 +107,20 @@ check_refused state s line command refusal code st some is = record {
     coded = rw is refl
 
 -- an entry for which memory was wanting
-pub check_lacking : (state : CheckState) (s : Standing) (entry : Entry) → ChecksFor state s → IsMarked entry lacking → EntryChecked state.terms s entry state (Memory (line_of entry) ∷ [])
-check_lacking state s entry st able = record {
+pub check_lacking : (state : CheckState) (s : Standing) (entry : Entry) → ChecksFor state s → IsMarked entry lacking → plain_mark (made s.feed) entry true ≡ lacking
+    → EntryChecked state.terms s entry state (Memory (line_of entry) ∷ [])
+check_lacking state s entry st able may = record {
   lacks = true;
-  marked = able;
-  stands = subst (ChecksFor state) (sym (after_lacking state.terms s entry)) st;
-  lines = λ end. refl;
+  marked = subst (IsMarked entry) (sym may) able;
+  stands = subst (λ m. ChecksFor state (after_entry state.terms s entry m)) (sym may) (subst (ChecksFor state) (sym (after_lacking state.terms s entry)) st);
+  lines = λ end. ap (λ m. checked_lines state.terms.schema (entry_answers state.terms (replies state.terms.schema) end s.feed entry m)) may;
 }
 
 -- a query that was read without memory
 pub check_unread : (state : CheckState) (s : Standing) (entry : Entry) (line : ℕ) → ChecksFor state s → (reads_query entry ≡ true) × (line_of entry ≡ line)
     → EntryChecked state.terms s entry state (Memory line ∷ [])
 check_unread state s entry line st is =
-    subst (λ l. EntryChecked state.terms s entry state (Memory l ∷ [])) is.1 (check_lacking state s entry st (reading_lacks entry is.0))
+    subst (λ l. EntryChecked state.terms s entry state (Memory l ∷ [])) is.1 (check_lacking state s entry st (reading_lacks entry is.0) (reading_may (made s.feed) entry is.0))
 
 -- a publish
 pub check_published : (old new : CheckState) (s : Standing) (line : ℕ) → ChecksFor old s → old.publishes < old.terms.limits.publishes

@@ -23,6 +23,7 @@ mod PartedLines
 mod PartedSteps
 mod PlainLegal
 mod PlainMayServe
+mod PlainRecords
 mod QueryFaults
 mod Queues
 mod RanSteps

@@ -15,7 +15,7 @@ use Rattle.unicorn_round.specs.Stacks.{is_due, is_untidied, due_untidied, name_o
 use Rattle.round_feed.proofs.Steps.{after-snoc, given-snoc, each-snoc, marked_by-snoc, marked_by-length}
 
 -- no stack is left untidied
-none_untidied : (number : ℕ) (covers : List StackCover) → due_untidied number [] covers ≡ []
+pub none_untidied : (number : ℕ) (covers : List StackCover) → due_untidied number [] covers ≡ []
 none_untidied number [] = refl
 none_untidied number (cover ∷ covers) = by (none_untidied number covers) (is_due number cover)
   where

@@ -25,14 +25,16 @@ module _ (terms : Terms) where
 
   -- a number of a mark is that of the publishes before it
   number_is : (n : ℕ) (entry : Entry) (lacks : Bool) (k : ℕ) → plain_mark n entry lacks ≡ at k → k ≡ n
-  number_is n entry true k is = absurd cc
+  number_is n (change line command) true k is = absurd cc
   number_is n (change line command) false k is = absurd cc
-  number_is n (publish line) false k is = absurd cc
+  number_is n (publish line) lacks k is = absurd cc
+  number_is n (ask line session viewer limit query) true k is = absurd cc
   number_is n (ask line session viewer limit query) false k is = cc
-  number_is n (compact line vertical shard replica) false k is = cc
-  number_is n (stats line) false k is = absurd cc
-  number_is n (refused line code) false k is = absurd cc
-  number_is n (fault line code) false k is = absurd cc
+  number_is n (compact line vertical shard replica) lacks k is = cc
+  number_is n (stats line) lacks k is = absurd cc
+  number_is n (refused line code) lacks k is = absurd cc
+  number_is n (fault line code) lacks k is = absurd cc
+  number_is n (query_fault line code column) true k is = absurd cc
   number_is n (query_fault line code column) false k is = absurd cc
 
   -- the numbers of a round are within its bounds

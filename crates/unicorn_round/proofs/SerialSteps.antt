@@ -14,9 +14,10 @@ use Rattle.reply_text.specs.declared.answer.Answer.TheVariants.{Published, Reply
 use Rattle.reply_text.specs.declared.answer.StackRow.{StackRow}
 use Rattle.script_rounds.specs.Entries.{Entry, change, publish, ask, compact, stats, refused, fault, query_fault, reads_query, line_of}
 use Rattle.script_rounds.specs.Terms.{Terms}
-use Rattle.unicorn_round.specs.Answers.{Standing, after_entry}
+use Rattle.unicorn_round.specs.Answers.{Standing, after_entry, entry_answers, replies}
 use Rattle.round_feed.specs.Feeds.{made, changed, published, publish_answers, refusal_answers, too_many_publishes}
 use Rattle.unicorn_round.specs.Marks.{lacking}
+use Rattle.unicorn_round.specs.Plain.{plain_mark}
 use Rattle.unicorn_round.specs.SerialState.{SerialState, IsPending, StandsFor, Answered}
 use Rattle.unicorn_round.specs.Records.{IsMarked}
 use Rattle.unicorn_round.specs.Stacks.{covering}
@@ -108,20 +109,26 @@ after_lacking terms s (refused line code) = refl
 after_lacking terms s (fault line code) = refl
 after_lacking terms s (query_fault line code column) = refl
 
-pub lacking_answered : (serving : SerialState) (s : Standing) (entry : Entry) → StandsFor serving s → IsMarked entry lacking
+-- so is one that reads a query, in an answering line by line
+pub reading_may : (n : ℕ) (entry : Entry) → reads_query entry ≡ true → plain_mark n entry true ≡ lacking
+reading_may n (ask line session viewer limit query) reads = refl
+reading_may n (query_fault line code column) reads = refl
+reading_may n entry reads = absurd cc
+
+pub lacking_answered : (serving : SerialState) (s : Standing) (entry : Entry) → StandsFor serving s → IsMarked entry lacking → plain_mark (made s.feed) entry true ≡ lacking
     → Answered serving.terms s entry serving (Memory (line_of entry) ∷ [])
-lacking_answered serving s entry st able = record {
+lacking_answered serving s entry st able may = record {
   lacks = true;
-  marked = able;
-  stands = subst (StandsFor serving) (sym (after_lacking serving.terms s entry)) st;
-  answers = λ end later. refl;
+  marked = subst (IsMarked entry) (sym may) able;
+  stands = subst (λ m. StandsFor serving (after_entry serving.terms s entry m)) (sym may) (subst (StandsFor serving) (sym (after_lacking serving.terms s entry)) st);
+  answers = λ end later. sym (ap (entry_answers serving.terms (replies serving.terms.schema) end s.feed entry) may);
 }
 
 -- a query that was read without memory
 pub unread_answered : (serving : SerialState) (s : Standing) (entry : Entry) (line : ℕ) → StandsFor serving s → (reads_query entry ≡ true) × (line_of entry ≡ line)
     → Answered serving.terms s entry serving (Memory line ∷ [])
 unread_answered serving s entry line st is =
-    subst (λ l. Answered serving.terms s entry serving (Memory l ∷ [])) is.1 (lacking_answered serving s entry st (reading_lacks entry is.0))
+    subst (λ l. Answered serving.terms s entry serving (Memory l ∷ [])) is.1 (lacking_answered serving s entry st (reading_lacks entry is.0) (reading_may (made s.feed) entry is.0))
 
 -- what is pending at a place in a script is the last version with the pending batch
 pub is_pending : (serving : SerialState) (s : Standing) → StandsFor serving s → IsPending serving

@@ -16,6 +16,7 @@ use Rattle.round_feed.specs.Steps.{Each}
 use Rattle.unicorn_round.specs.Legal.{Legal}
 use Rattle.unicorn_round.specs.Marks.{Record}
 use Rattle.unicorn_round.specs.Modes.{AnswersPlainly, Serves}
+use Rattle.unicorn_round.specs.Plain.{Lacks, AreAsMany, plain_record}
 use Rattle.unicorn_round.specs.Records.{IsRecord}
 
 -- Answers tell their record: two records of rounds that have the same answers are the same, where no two
@@ -43,6 +44,11 @@ pub record RoundsMakeJournals : Type 0 where
 -- What answers rounds line by line is one of the texts that a service may answer them by.
 pub record PlainMayServe : Type 0 where
   pub serves : (terms : Terms) → (rounds : List (List Entry)) → (text : List ℕ) → AnswersPlainly terms rounds text → Serves terms rounds text
+
+-- Each script has a record, and a legal one: that of its lines one by one, for whichever of them memory was wanting.
+pub record PlainIsARecord : Type 0 where
+  pub is_record : (terms : Terms) → (rounds : List (List Entry)) → (lacks : List Lacks) → AreAsMany rounds lacks → IsRecord terms rounds (plain_record terms rounds lacks)
+  pub legal : (terms : Terms) → (rounds : List (List Entry)) → (lacks : List Lacks) → AreAsMany rounds lacks → Legal terms rounds (plain_record terms rounds lacks)
 
 -- In a legal record no compaction takes from what its stack covers, and none claims more than was made: what a stack covers
 -- behind one is the greater of its number and of what the stack covered.

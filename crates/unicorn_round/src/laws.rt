@@ -1,6 +1,6 @@
 //! Laws about definitions, each the contract of a function that does nothing of its own.
 ghost use Rattle.unicorn_round.specs.Counts.{CountsAgree};
-ghost use Rattle.unicorn_round.specs.Laws.{AnswersTell, CompactionsRaise, PlainMayServe, RoundsMakeJournals};
+ghost use Rattle.unicorn_round.specs.Laws.{AnswersTell, CompactionsRaise, PlainIsARecord, PlainMayServe, RoundsMakeJournals};
 
 /// Equal answers are those of equal records, and so are answers of one text.
 pub fn answers_tell()
@@ -30,6 +30,12 @@ pub fn compactions_raise()
 #[tactic(auto, using(crate::proofs::PlainMayServe::plain_may_serve))]
 pub fn plain_may_serve()
     ensures { PlainMayServe }
+{}
+
+/// Each script has a record, and a legal one.
+#[tactic(auto, using(crate::proofs::PlainRecords::plain_is_a_record))]
+pub fn plain_is_a_record()
+    ensures { PlainIsARecord }
 {}
 
 /// Where no round both publishes and asks, the answers come to the same counts whatever the record.
