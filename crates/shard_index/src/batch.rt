@@ -14,8 +14,6 @@ mod notes;
 mod numbers;
 mod postings;
 mod records;
-#[cfg(test)]
-mod tests;
 
 use edges::note_edges;
 use entities::note_entities;

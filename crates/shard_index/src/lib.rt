@@ -14,8 +14,6 @@ mod places;
 mod ranks;
 mod records;
 mod stacks;
-#[cfg(test)]
-mod tests;
 mod version;
 
 pub use batch::batch_layers;

@@ -80,7 +80,7 @@ module _ (catalogue : Catalogue) (items : List Item) (parts : Parts) (n : ℕ) w
     fit = subst (ItemsFit (terms_of catalogue)) (sym parted.feed) (feed_fit (terms_of catalogue) items fit);
   }
 
-  pub may_compact : (compactor : Compactor) → IsCompactorOf catalogue compactor → compactor_turns compactor ≤ 8194 * n → n + length items + 1 ≤ 2 ^ 37 → ItemsFit (terms_of catalogue) items → IsParted (terms_of catalogue).limits.sessions items parts
+  pub may_compact : (compactor : Compactor) → IsCompactorOf catalogue compactor → compactor_turns compactor ≤ 8195 * n → n + length items + 1 ≤ 2 ^ 37 → ItemsFit (terms_of catalogue) items → IsParted (terms_of catalogue).limits.sessions items parts
       → MayTakeCompactions catalogue parts.compactions compactor
   may_compact compactor of turns few fit parted = record {
     may = record { of = of; few = omega (arith, turns, few, ap (length {A = Item}) parted.compactions, few_compactions items) };
@@ -88,8 +88,8 @@ module _ (catalogue : Catalogue) (items : List Item) (parts : Parts) (n : ℕ) w
   }
 
   -- and the stacks that are due at the round's end
-  pub may_tidy : (old new : Compactor) → compactor_turns old ≤ 8194 * n → n + length items + 1 ≤ 2 ^ 37 → IsParted (terms_of catalogue).limits.sessions items parts → HasCompacted catalogue (2 * length parts.compactions) old new
-      → MayCompact catalogue 8192 new
+  pub may_tidy : (old new : Compactor) → compactor_turns old ≤ 8195 * n → n + length items + 1 ≤ 2 ^ 37 → IsParted (terms_of catalogue).limits.sessions items parts → HasCompacted catalogue (2 * length parts.compactions) old new
+      → MayCompact catalogue 8193 new
   may_tidy old new turns few parted has = record { of = has.of; few = omega (arith, turns, has.few, few, ap (length {A = Item}) parted.compactions, few_compactions items) }
 
   each_few : IsParted (terms_of catalogue).limits.sessions items parts → AllByRecursion (λ asks. length asks ≤ length items) parts.asks.items

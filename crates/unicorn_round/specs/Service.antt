@@ -38,7 +38,7 @@ pub record IsReady (service : Service) (n : ℕ) : Type 0 where
   pub fed : feeder_turns service.feeder ≤ n + 1
   pub publishes : length (feeder_journal service.feeder) ≤ (terms_of service.catalogue).limits.publishes
   pub compactor : IsCompactorOf service.catalogue service.compactor
-  pub compacted : compactor_turns service.compactor ≤ 8194 * n
+  pub compacted : compactor_turns service.compactor ≤ 8195 * n
   pub sessions : AllByRecursion (IsIdle service.catalogue n) service.sessions.items
   pub count : length service.sessions.items ≡ (terms_of service.catalogue).limits.sessions
   pub stacks : AreStacks (settings_of service.catalogue).schema service.stacks

@@ -22,8 +22,6 @@ mod slot;
 mod stacks;
 mod status;
 mod summary;
-#[cfg(test)]
-mod tests;
 mod tidy;
 mod write;
 

@@ -1,12 +1,12 @@
 //! The end of a round: stacks that are due are compacted, and the answers are put together.
-ghost use Rattle.std.specs.Prelude.{◌≡◌, ◌*◌, ◌^◌, ◌<◌, ◌≤◌, ◌++◌, IfOk, OnOk, length};
+ghost use Rattle.std.specs.Prelude.{◌≡◌, ◌+◌, ◌*◌, ◌^◌, ◌<◌, ◌≤◌, ◌++◌, IfOk, OnOk, filter, length};
 ghost use Rattle.std.specs.List.{All, AllByRecursion};
 ghost use Rattle.uni_schema.specs.Schema.{Declarations};
 ghost use Rattle.round_feed.specs.Seats.{HasCompacted, MayCompact};
 ghost use Rattle.unicorn_round.specs.Ending.{IsEnded};
 ghost use Rattle.unicorn_round.specs.Parted.{slots_in};
 ghost use Rattle.unicorn_round.specs.Queues.{answers_at, shown_by};
-ghost use Rattle.unicorn_round.specs.SchemaStacks.{AreStacks, IsStackOf};
+ghost use Rattle.unicorn_round.specs.SchemaStacks.{AreStacks, IsStackOf, is_layered};
 ghost use Rattle.unicorn_round.specs.Weaving.{merged};
 ghost use Rattle.version_catalog.specs.Bases.{IsStackId};
 ghost use Rattle.version_catalog.specs.Seats.{IsFeederOf, feeder_journal, settings_of};
@@ -17,6 +17,7 @@ use crate::round::RoundAnswers;
 use crate::stacks::{StackCover, Stacks};
 use rack_aggregate::{Gate, Point};
 use reply_text::{Answer, AnswerList};
+use shard_index::Version;
 use std::alloc::{AllocError, Global};
 use std::sync::Wait;
 use std::thread::Threads;
@@ -39,9 +40,9 @@ pub(crate) fn end_round<R: Threads + Wait + Sync, G: Gate>(
     requires workers { 1 ≤ workers }
     requires feeder { IsFeederOf catalogue.now feeder.now }
     requires few { length (feeder_journal feeder.now) < 2 ^ 63 }
-    requires compactor { MayCompact catalogue.now 8192 compactor.old }
+    requires compactor { MayCompact catalogue.now 8193 compactor.old }
     requires stacks { AreStacks (settings_of catalogue.now).schema stacks.old }
-    ensures compactor { HasCompacted catalogue.now 8192 compactor.old compactor.new }
+    ensures compactor { HasCompacted catalogue.now 8193 compactor.old compactor.new }
     ensures stacks { OnOk result (AreStacks (settings_of catalogue.now).schema stacks.new) }
     ensures ended { IfOk result (IsEnded (length (feeder_journal feeder.now)) stacks.old stacks.new parts answers) }
 {
@@ -85,8 +86,7 @@ fn put_together(
     Ok(AnswerList::from_vec(said))
 }
 
-// Compacts stacks, those of as many shards as there are workers at a time. Those that found no memory are as
-// before, and are told.
+// Compacts stacks, those of as many shards as there are workers at a time, and tells those that were not.
 fn tidy_stacks<R: Threads + Wait + Sync, G: Gate>(
     rt: &R,
     alloc: Global,
@@ -97,14 +97,24 @@ fn tidy_stacks<R: Threads + Wait + Sync, G: Gate>(
     gate: &G,
 ) -> Result<Vec<StackCover>, AllocError>
     requires workers { 1 ≤ workers }
-    requires compactor { MayCompact catalogue.now (2 * length due.now) compactor.old }
+    requires compactor { MayCompact catalogue.now (2 * length due.now + 1) compactor.old }
     requires stacks { AllByRecursion (IsStackOf (settings_of catalogue.now).schema) due.now }
-    ensures { HasCompacted catalogue.now (2 * length due.now) compactor.old compactor.new }
+    ensures { HasCompacted catalogue.now (2 * length due.now + 1) compactor.old compactor.new }
 {
+    let mut missed = Vec::new(alloc);
+    if due.is_empty() {
+        return Ok(missed);
+    }
     let ids = ids_of(alloc, due)?;
     match catalogue.compact_stacks(rt, compactor, &ids, workers) {
-        Ok(covers) => missed_of(rt, alloc, due, &covers, gate),
-        Err(_) => missed_of(rt, alloc, due, &[], gate),
+        Ok(pinned) => {
+            let version = pinned.version();
+            layered_in(rt, alloc, version, due, gate)
+        }
+        Err(_) => {
+            missed.extend_from_slice(due)?;
+            Ok(missed)
+        }
     }
 }
 
@@ -124,24 +134,36 @@ fn ids_of(alloc: Global, stacks: &[StackCover]) -> Result<Vec<StackId>, AllocErr
     Ok(ids)
 }
 
-// The stacks that were not compacted: those that no number of publishes is told of. The gate is told of the
-// others.
-fn missed_of<R: Wait, G: Gate>(
+// Those of some stacks that have more than one layer in a version. The gate is told of the others.
+fn layered_in<R: Wait, G: Gate>(
     rt: &R,
     alloc: Global,
+    version: &Version,
     stacks: &[StackCover],
-    covers: &[Option<u64>],
     gate: &G,
-) -> Result<Vec<StackCover>, AllocError> {
-    let mut missed = Vec::new(alloc);
-    for (at, stack) in stacks.iter().enumerate() {
-        match covers.get(at) {
-            Some(Some(_)) => gate.at(
+) -> Result<Vec<StackCover>, AllocError>
+    requires { AllByRecursion (IsStackOf version.now.schema) stacks.now }
+    ensures { IfOk result (λ layered. layered.items ≡ filter (is_layered version.now) stacks.now) }
+{
+    let mut layered = Vec::new(alloc);
+    for stack in stacks {
+        if is_layered(version, stack) {
+            layered.push(*stack)?;
+        } else {
+            gate.at(
                 rt,
                 Point::Installed(stack.vertical, stack.shard, stack.replica),
-            ),
-            _ => missed.push(*stack)?,
+            );
         }
     }
-    Ok(missed)
+    Ok(layered)
+}
+
+// Whether a stack has more than one layer in a version.
+fn is_layered(version: &Version, stack: &StackCover) -> bool
+    requires { IsStackOf version.now.schema stack.now }
+    ensures { result ≡ is_layered version.now stack.now }
+{
+    let index = version.shard(stack.vertical, stack.shard, stack.replica);
+    index.layers() > 1
 }

@@ -10,7 +10,7 @@ use Rattle.uni_table.specs.declared.command.Command.{Command}
 use Rattle.shard_index.specs.Rows.{ShardChanges}
 use Rattle.shard_index.specs.Shards.{shard_rows}
 use Rattle.shard_index.specs.Versions.{VersionState, StandsAt}
-use Rattle.version_catalog.specs.Bases.{IsWhole, StandsAfter, IsBaseAfter, IsBetween}
+use Rattle.version_catalog.specs.Bases.{IsWhole, StandsAfter, IsBaseAfter}
 use Rattle.version_catalog.specs.Seats.{IsVersionOf}
 use Rattle.version_catalog.specs.Settings.{SettingsState}
 use Rattle.version_catalog.specs.Stacks.{table_at}
@@ -37,21 +37,6 @@ bases_later schema before after covers bases p all =
     (All-weaker (IsBaseAfter schema before covers) (IsBaseAfter schema (before ++ p.0) covers)
     (λ (base : ShardBase). some_weaker (StandsAfter schema before covers base.vertical base.shard) (StandsAfter schema (before ++ p.0) covers base.vertical base.shard)
     (stands_later schema before p.0 covers base.vertical base.shard) base.layer) bases all)
-
-pub longer : (before after : List (List Command)) → IsPrefix before after → length before ≤ length after
-longer before after p = omega (arith, length-append before p.0, ap length p.1)
-
--- a number of publishes is among those that were made, and stays so
-pub number_between : (least covers most : ℕ) (told : Option ℕ) → least ≤ covers → covers ≤ most → IfSome told (λ n. n ≡ covers) → IsBetween least most told
-number_between least covers most told low high = some_weaker (λ n. n ≡ covers) (λ n. (least ≤ n) × (n ≤ most)) (λ n same. (omega (arith, low, same), omega (arith, high, same))) told
-
-pub between_later : (least : ℕ) (before after : List (List Command)) (told : List (Option ℕ)) → IsPrefix before after
-    → All (IsBetween least (length before)) told → All (IsBetween least (length after)) told
-between_later least before after told p all =
-    subst (λ journal. All (IsBetween least (length journal)) told) p.1
-    (All-weaker (IsBetween least (length before)) (IsBetween least (length (before ++ p.0)))
-    (some_weaker (λ n. (least ≤ n) × (n ≤ length before)) (λ n. (least ≤ n) × (n ≤ length (before ++ p.0)))
-    (λ n within. (within.0, omega (arith, within.1, length-append before p.0)))) told all)
 
 -- ---- at a pin
 

@@ -1,5 +1,5 @@
 -- Stacks by their numbers, and layers that by themselves stand for shards.
-use Rattle.std.specs.Prelude.{ℕ, ◌≡◌, ◌≤◌, ◌&&◌, ◌==◌, Bool, List, [], ◌∷◌, length, Option, IfSome}
+use Rattle.std.specs.Prelude.{ℕ, ◌≡◌, ◌≤◌, ◌&&◌, ◌==◌, Bool, List, [], ◌∷◌, length, IfSome}
 use Rattle.uni_schema.specs.Schema.{Declarations}
 use Rattle.uni_table.specs.declared.command.Command.{Command}
 use Rattle.shard_index.specs.Places.{IsStack}
@@ -30,7 +30,3 @@ pub record StandsAfter (schema : Declarations) (journal : List (List Command)) (
 -- that of a base does, where it has one
 abbrev pub IsBaseAfter : Declarations → List (List Command) → ℕ → ShardBase → Type 0
 IsBaseAfter schema journal covers base = IfSome base.layer (StandsAfter schema journal covers base.vertical base.shard)
-
--- a number is one of so many publishes, where there is a number
-abbrev pub IsBetween : ℕ → ℕ → Option ℕ → Type 0
-IsBetween least most covers = IfSome covers (λ n. (least ≤ n) × (n ≤ most))

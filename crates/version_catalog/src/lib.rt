@@ -42,6 +42,3 @@ pub type Session = turn_lock::Seat<CatalogueState>;
 
 /// What a seat of a catalogue has seen.
 pub type Note = turn_lock::Note<CatalogueState>;
-
-#[cfg(test)]
-mod tests;

@@ -1,6 +1,5 @@
-use Rattle.std.proofs.Common.{◌≡◌, ◌+◌, ◌-◌, ◌*◌, ◌≤◌, All, length}
+use Rattle.std.proofs.Common.{◌≡◌, ◌+◌, ◌-◌, ◌*◌, ◌≤◌, length}
 use mathlib.Core.List.{IsPrefix}
-use Rattle.version_catalog.specs.Bases.{IsBetween}
 use Rattle.version_catalog.specs.Seats.{compactor_journal, compactor_turns, IsCompactorOf}
 use Rattle.version_catalog.proofs.catalogue.Catalogue.compact_stacks.Given as goal
 
@@ -10,8 +9,6 @@ invariant-loop-from g l = record {
   of : IsCompactorOf l.self l.compactor;
   turns : compactor_turns l.compactor ≤ compactor_turns l.fn.compactor + 2 * l.from;
   later : IsPrefix (compactor_journal l.fn.compactor) (compactor_journal l.compactor);
-  told : length l.told.items ≡ length l.stacks;
-  covers : All (IsBetween (length (compactor_journal l.fn.compactor)) (length (compactor_journal l.compactor))) l.told.items;
 }
 
 abbrev pub decreases-loop-from : goal.decreases-loop-from

@@ -1,5 +1,0 @@
-use Rattle.std.proofs.Common.{rules}
-use Rattle.version_catalog.proofs.tests.Opened.new.Goals as goal
-
-pub invariant_of-result-clause-rests : goal.invariant_of-result-clause-rests
-invariant_of-result-clause-rests g c = search rules

@@ -1,6 +1,0 @@
--- the feeder stays that of the catalogue
-use Rattle.version_catalog.specs.Seats.{IsFeederOf}
-use Rattle.version_catalog.proofs.tests.threads.are_put.Given as goal
-
-abbrev pub invariant-loop-line : goal.invariant-loop-line
-invariant-loop-line l = IsFeederOf l.catalogue l.feeder

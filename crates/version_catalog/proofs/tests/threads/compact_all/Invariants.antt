@@ -1,5 +1,0 @@
-use Rattle.version_catalog.specs.Seats.{IsCompactorOf}
-use Rattle.version_catalog.proofs.tests.threads.compact_all.Given as goal
-
-abbrev pub invariant-loop-turn : goal.invariant-loop-turn
-invariant-loop-turn g l = IsCompactorOf l.catalogue l.compactor
