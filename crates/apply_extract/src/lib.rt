@@ -12,7 +12,5 @@ mod notes;
 mod reply;
 mod shards;
 mod shown;
-#[cfg(test)]
-mod tests;
 
 pub use reply::{answer, answer_here};

@@ -12,8 +12,6 @@ mod names;
 mod number;
 mod print;
 mod read;
-#[cfg(test)]
-mod tests;
 
 pub use fault::LineFault;
 pub use line::FeedLine;

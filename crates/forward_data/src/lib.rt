@@ -6,8 +6,6 @@ mod combine;
 mod layer;
 mod record;
 mod stack;
-#[cfg(test)]
-mod tests;
 
 pub use layer::{ForwardDelta, ForwardLayer};
 pub use record::{ForwardItem, ForwardItems, RecordKey};

@@ -4,8 +4,6 @@
 
 mod forward;
 mod postings;
-#[cfg(test)]
-mod tests;
 
 pub use forward::merge_forward;
 pub use postings::merge_front;

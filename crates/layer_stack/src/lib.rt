@@ -21,8 +21,6 @@ mod settle;
 mod short_term;
 mod stack;
 mod term_spans;
-#[cfg(test)]
-mod tests;
 mod words;
 
 pub use cursor::StackCursor;

@@ -3,7 +3,5 @@
 
 mod command;
 mod key;
-#[cfg(test)]
-mod tests;
 
 pub use command::PackedCommand;

@@ -10,8 +10,6 @@ pub mod examples;
 mod list;
 mod posting;
 mod search;
-#[cfg(test)]
-mod tests;
 
 pub use columns::PostingColumns;
 pub use cursor::ListCursor;

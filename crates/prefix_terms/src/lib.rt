@@ -4,8 +4,6 @@
 mod cursor;
 pub mod laws;
 mod next;
-#[cfg(test)]
-mod tests;
 mod words;
 
 pub use cursor::{PrefixCursor, prefix_cursor};

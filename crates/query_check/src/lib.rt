@@ -8,8 +8,6 @@ pub mod laws;
 mod leaf;
 mod lookup;
 mod nodes;
-#[cfg(test)]
-mod tests;
 
 pub use checked::{Checked, CheckedList, CheckedNode, CheckedOperand};
 pub use fault::{

@@ -12,8 +12,6 @@ mod read_line;
 mod round;
 mod rounds;
 mod terms;
-#[cfg(test)]
-mod tests;
 
 pub use fault::{BAD_LIMIT, BAD_SESSION, BAD_VIEWER, LINE_TOO_LONG, TOO_MANY_LINES};
 pub use header::OpenRefusal;

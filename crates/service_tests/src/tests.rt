@@ -2,7 +2,6 @@
 ghost use Rattle.uni_base.specs.StandardLimits.{IsWithinStandard};
 
 use std::alloc::Global;
-use std::process::Abort;
 use std::sync::Wait;
 use std::test::Fail;
 use std::thread::Threads;
@@ -73,8 +72,13 @@ enum Mode {
 
 const MODES: [Mode; 3] = [Mode::First, Mode::InTurn, Mode::Plain];
 
-// Answers a script, and compares the text and the number of the status.
-fn ends<R: Abort + Threads + Wait + Sync>(
+// The bytes of an output as text.
+fn shown(text: &[u8]) -> &str {
+    str::from_utf8(text).unwrap_or("")
+}
+
+// Answers a script. Fails with what is answered where that is another text, or the status has another number.
+fn ends<R: Threads + Wait + Sync>(
     rt: &R,
     alloc: Global,
     mode: Mode,
@@ -82,7 +86,7 @@ fn ends<R: Abort + Threads + Wait + Sync>(
     source: &mut MemorySource,
     sink: &mut MemorySink,
     want: (&[u8], u8),
-)
+) -> Result<(), Fail>
     requires { IsWithinStandard limits }
 {
     let ended = match mode {
@@ -91,8 +95,10 @@ fn ends<R: Abort + Threads + Wait + Sync>(
         Mode::Plain => run_plain(alloc, limits, source, sink),
     };
     let (text, status) = want;
-    assert_eq!(rt; sink.bytes(), text, "{mode:?}");
-    assert_eq!(rt; ended.number(), status, "{mode:?}");
+    if sink.bytes() != text || ended.number() != status {
+        return Err(Fail::new(shown(sink.bytes())));
+    }
+    Ok(())
 }
 
 // Adds a part to a text. A bar stands for an LF.
@@ -140,7 +146,7 @@ fn rows(alloc: Global, table: &[u8]) -> Result<Vec<Text>, Fail> {
 }
 
 // Answers the parts of a script in each mode.
-fn is_answered<R: Abort + Threads + Wait + Sync>(
+fn is_answered<R: Threads + Wait + Sync>(
     rt: &R,
     alloc: Global,
     limits: Limits,
@@ -151,25 +157,39 @@ fn is_answered<R: Abort + Threads + Wait + Sync>(
     requires { IsWithinStandard limits }
 {
     let want = text(alloc, want)?;
+    let script = text(alloc, script)?;
     for mode in MODES {
-        let mut source = whole(alloc, text(alloc, script)?)?;
-        let mut sink = roomy(alloc)?;
-        ends(
+        ends_whole(
             rt,
             alloc,
             mode,
             limits,
-            &mut source,
-            &mut sink,
+            script.as_slice(),
             (want.as_slice(), status),
-        );
+        )?;
     }
     Ok(())
 }
 
+// Answers a script in one piece, with room for all.
+fn ends_whole<R: Threads + Wait + Sync>(
+    rt: &R,
+    alloc: Global,
+    mode: Mode,
+    limits: Limits,
+    script: &[u8],
+    want: (&[u8], u8),
+) -> Result<(), Fail>
+    requires { IsWithinStandard limits }
+{
+    let mut source = piece(alloc, script)?;
+    let mut sink = roomy(alloc)?;
+    ends(rt, alloc, mode, limits, &mut source, &mut sink, want)
+}
+
 // Answers each row of a table: lines and, after a sign of equality, the text that answers them.
 // They follow the graph and its answer.
-fn are_answered<R: Abort + Threads + Wait + Sync>(
+fn are_answered<R: Threads + Wait + Sync>(
     rt: &R,
     alloc: Global,
     limits: Limits,
@@ -193,28 +213,35 @@ fn are_answered<R: Abort + Threads + Wait + Sync>(
 }
 
 // Answers each row of a table line by line.
-fn are_answered_in_line<R: Abort + Threads + Wait + Sync>(
+fn are_answered_in_line<R: Threads + Wait + Sync>(
     rt: &R,
     alloc: Global,
     front: &[u8],
     table: &[u8],
 ) -> Result<(), Fail> {
     for row in rows(alloc, table)?.as_slice() {
-        let (lines, want) = cut_at(row.as_slice(), b'=').ok_or("no row")?;
-        let want = text(alloc, &[PUBLISHED, want])?;
-        let mut source = whole(alloc, text(alloc, &[front, GRAPH, lines])?)?;
-        let mut sink = roomy(alloc)?;
-        ends(
-            rt,
-            alloc,
-            Mode::Plain,
-            Limits::standard(),
-            &mut source,
-            &mut sink,
-            (want.as_slice(), 0),
-        );
+        is_answered_in_line(rt, alloc, front, row.as_slice())?;
     }
     Ok(())
+}
+
+fn is_answered_in_line<R: Threads + Wait + Sync>(
+    rt: &R,
+    alloc: Global,
+    front: &[u8],
+    row: &[u8],
+) -> Result<(), Fail> {
+    let (lines, want) = cut_at(row, b'=').ok_or("no row")?;
+    let want = text(alloc, &[PUBLISHED, want])?;
+    let script = text(alloc, &[front, GRAPH, lines])?;
+    ends_whole(
+        rt,
+        alloc,
+        Mode::Plain,
+        Limits::standard(),
+        script.as_slice(),
+        (want.as_slice(), 0),
+    )
 }
 
 // The numbers of workers that a service is tried with.

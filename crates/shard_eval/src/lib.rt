@@ -15,8 +15,6 @@ mod resolved;
 mod shard;
 mod source;
 mod terms;
-#[cfg(test)]
-mod tests;
 mod trees;
 mod witness;
 

@@ -14,8 +14,6 @@ mod place;
 mod reply;
 mod standing;
 mod term;
-#[cfg(test)]
-mod tests;
 mod view;
 
 pub use answer::plain_answer;

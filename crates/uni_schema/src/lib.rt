@@ -10,8 +10,6 @@ mod print;
 mod refusal;
 mod rules;
 mod schema;
-#[cfg(test)]
-mod tests;
 
 pub use header::HeaderReader;
 pub use print::print_header;

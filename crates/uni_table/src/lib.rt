@@ -9,8 +9,6 @@ mod graph;
 pub mod laws;
 mod refusal;
 mod table;
-#[cfg(test)]
-mod tests;
 
 pub use change::{EdgeChange, EdgeChanges, EntityChange, EntityChanges};
 pub use command::{AudienceText, Command, EdgeRow, EntityRow};

@@ -10,8 +10,6 @@ ghost use Rattle.uni_meaning.specs.Policy.{admits, authorised, denies, some_owne
 ghost use Rattle.viewer_policy.specs.Judged.{IsHeld, StandsFor, judged};
 
 mod lookup;
-#[cfg(test)]
-mod tests;
 
 use lookup::reaches;
 use shard_index::Version;

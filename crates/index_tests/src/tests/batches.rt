@@ -2,7 +2,6 @@
 use super::{is_put, schema};
 use shard_index::{ShardIndex, ShardLayer, batch_layers};
 use std::alloc::{AllocError, Global};
-use std::process::Abort;
 use std::sync::Arc;
 use std::test::Fail;
 use uni_base::{Limits, Rank, read_id};
@@ -33,38 +32,57 @@ const SHOWN: u64 = 60;
 // The entries of their layers: of either shard of users the put of each, and its posting; and a record.
 const MANY_ENTRIES: [u64; 3] = [1_000, 1_000, 1];
 
-fn put_all(rt: &impl Abort, table: &mut Table, lines: &[u8]) {
-    for line in lines.split(|byte| *byte == b'|') {
-        assert!(rt; is_put(table, line));
+// Puts lines, which bars part. Fails at the number of the first that the table does not take.
+fn put_all(table: &mut Table, lines: &[u8]) -> Result<(), Fail> {
+    for (number, line) in lines.split(|byte| *byte == b'|').enumerate() {
+        if !is_put(table, line) {
+            return Err(Fail::new(number));
+        }
     }
+    Ok(())
 }
 
-fn published(rt: &impl Abort, alloc: Global) -> Result<Table, Fail> {
-    let schema = Arc::new(alloc, schema(alloc, HEADER).ok_or("no header")?)?;
+fn published(alloc: Global) -> Result<Table, Fail> {
+    let schema = schema(alloc, HEADER).ok_or("no header")?;
+    let schema = Arc::new(alloc, schema)?;
     let mut table = Table::new(alloc, schema, Limits::standard());
-    put_all(rt, &mut table, ROWS);
+    put_all(&mut table, ROWS)?;
     table.begin_batch();
     Ok(table)
 }
 
-// Compares how many entries layers have.
-fn check_entries(rt: &impl Abort, layers: &[ShardLayer], entries: &[u64]) {
-    assert_eq!(rt; layers.len(), entries.len());
+// Whether the layers of a table's batch have so many entries.
+fn has_entries(alloc: Global, table: &Table, entries: &[u64]) -> Result<bool, Fail> {
+    let layers = batch_layers(alloc, table)?;
     for (number, layer) in layers.iter().enumerate() {
-        assert!(rt;
-            entries.get(number) == Some(&layer.entries()),
-            "at {number}"
-        );
+        if entries.get(number) != Some(&layer.entries()) {
+            return Err(Fail::new(number));
+        }
     }
+    Ok(layers.len() == entries.len())
+}
+
+// The table with its batch.
+fn changed(alloc: Global) -> Result<Table, Fail> {
+    let mut table = published(alloc)?;
+    put_all(&mut table, BATCH)?;
+    Ok(table)
 }
 
 #[test]
 fn a_batch_has_a_layer_for_each_shard(rt: HostRuntime) -> Result<(), Fail> {
-    let mut table = published(&rt, rt.alloc())?;
-    put_all(&rt, &mut table, BATCH);
-    let layers = batch_layers(rt.alloc(), &table)?;
-    check_entries(&rt, layers.as_slice(), &ENTRIES);
+    let table = changed(rt.alloc())?;
+    assert!(rt; has_entries(rt.alloc(), &table, &ENTRIES)?);
     Ok(())
+}
+
+// The index of a shard of the table as it was published.
+fn base(alloc: Global, vertical: u16, shard: u32) -> Result<ShardIndex, Fail> {
+    let table = published(alloc)?;
+    if vertical >= table.schema().verticals() {
+        return Err("no such vertical")?;
+    }
+    Ok(ShardIndex::rebuild(alloc, &table, vertical, shard)?)
 }
 
 // An index with the layer at a place over it, of those of a table's batch.
@@ -81,75 +99,77 @@ fn with_layer(
     Ok(index)
 }
 
-// The rank of an entity in the second shard of users, after a batch.
-fn rank_after(rt: &impl Abort, alloc: Global, id: &[u8]) -> Result<Option<Rank>, Fail> {
-    let mut table = published(rt, alloc)?;
-    if table.schema().verticals() == 0 {
-        return Err("no vertical")?;
+// The rank of an entity in the second shard of users, after a table's batch.
+fn rank_after(alloc: Global, table: &Table, id: &[u8]) -> Result<Option<Rank>, Fail> {
+    let id = read_id(id).ok_or("no id")?;
+    let index = base(alloc, 0, 1)?;
+    let index = with_layer(alloc, table, &index, 1)?;
+    Ok(index.rank_of(id))
+}
+
+// Fails at the first of three entities that has another rank after the batch.
+fn have_ranks(alloc: Global, table: &Table) -> Result<(), Fail> {
+    let ranks = [(b"5", Some(Rank(95))), (b"3", None), (b"1", Some(Rank(50)))];
+    for (number, (id, rank)) in ranks.into_iter().enumerate() {
+        if rank_after(alloc, table, id)? != rank {
+            return Err(Fail::new(number));
+        }
     }
-    let index = ShardIndex::rebuild(alloc, &table, 0, 1)?;
-    put_all(rt, &mut table, BATCH);
-    let index = with_layer(alloc, &table, &index, 1)?;
-    Ok(index.rank_of(read_id(id).ok_or("no id")?))
+    Ok(())
 }
 
 #[test]
 fn a_layer_over_an_index(rt: HostRuntime) -> Result<(), Fail> {
-    assert_eq!(rt; rank_after(&rt, rt.alloc(), b"5")?, Some(Rank(95)));
-    assert_eq!(rt; rank_after(&rt, rt.alloc(), b"3")?, None);
-    assert_eq!(rt; rank_after(&rt, rt.alloc(), b"1")?, Some(Rank(50)));
-    Ok(())
+    let table = changed(rt.alloc())?;
+    have_ranks(rt.alloc(), &table)
 }
 
 // Puts a user who is a friend of user 1.
-fn put_friend(
-    rt: &impl Abort,
-    alloc: Global,
-    table: &mut Table,
-    id: u64,
-) -> Result<(), AllocError> {
+fn put_friend(alloc: Global, table: &mut Table, id: u64) -> Result<(), Fail> {
     let lines = format!(in alloc; "entity user {id} 50|edge friend 1 {id} public")?;
-    put_all(rt, table, lines.as_bytes());
-    Ok(())
+    put_all(table, lines.as_bytes())
 }
 
 // Puts that the photo shows a user.
-fn put_shown(rt: &impl Abort, alloc: Global, table: &mut Table, id: u64) -> Result<(), AllocError> {
+fn put_shown(alloc: Global, table: &mut Table, id: u64) -> Result<(), Fail> {
     let line = format!(in alloc; "edge shows 102 {id} public")?;
-    put_all(rt, table, line.as_bytes());
-    Ok(())
+    put_all(table, line.as_bytes())
 }
 
 // Puts many users.
-fn put_many(rt: &impl Abort, alloc: Global, table: &mut Table) -> Result<(), AllocError> {
+fn put_many(alloc: Global, table: &mut Table) -> Result<(), Fail> {
     for number in 0..MANY {
-        put_friend(rt, alloc, table, number + 1_000)?;
+        put_friend(alloc, table, number + 1_000)?;
     }
     for number in 0..SHOWN {
-        put_shown(rt, alloc, table, number + 1_940)?;
+        put_shown(alloc, table, number + 1_940)?;
     }
     Ok(())
 }
 
-// How many users the photo shows after many were put.
-fn shown_after(rt: &impl Abort, alloc: Global) -> Result<usize, Fail> {
-    let mut table = published(rt, alloc)?;
-    if table.schema().verticals() < 2 {
-        return Err("no photos")?;
-    }
-    let index = ShardIndex::rebuild(alloc, &table, 1, 0)?;
-    put_many(rt, alloc, &mut table)?;
-    let index = with_layer(alloc, &table, &index, 2)?;
+// The table with many users put.
+fn grown(alloc: Global) -> Result<Table, Fail> {
+    let mut table = published(alloc)?;
+    put_many(alloc, &mut table)?;
+    Ok(table)
+}
+
+// How many users the photo shows after a table's batch.
+fn shown_after(alloc: Global, table: &Table) -> Result<usize, Fail> {
     let photo = read_id(b"102").ok_or("no id")?;
+    let index = base(alloc, 1, 0)?;
+    let index = with_layer(alloc, table, &index, 2)?;
     Ok(index.forward(3, photo).len())
+}
+
+// Whether the layers of many users put have so many entries, and the photo shows those that it is to.
+fn are_many_listed(alloc: Global, table: &Table) -> Result<bool, Fail> {
+    Ok(has_entries(alloc, table, &MANY_ENTRIES)? && shown_after(alloc, table)? == 62)
 }
 
 #[test]
 fn more_changes_than_are_made_at_a_time(rt: HostRuntime) -> Result<(), Fail> {
-    let mut table = published(&rt, rt.alloc())?;
-    put_many(&rt, rt.alloc(), &mut table)?;
-    let layers = batch_layers(rt.alloc(), &table)?;
-    check_entries(&rt, layers.as_slice(), &MANY_ENTRIES);
-    assert_eq!(rt; shown_after(&rt, rt.alloc())?, 62);
+    let table = grown(rt.alloc())?;
+    assert!(rt; are_many_listed(rt.alloc(), &table)?);
     Ok(())
 }

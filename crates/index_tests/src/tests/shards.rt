@@ -6,7 +6,6 @@ use posting_lists::Posting;
 use reading::{copies, doc_key, is_met, term};
 use shard_index::{EntityDelta, EntityLayer, ShardIndex, ShardLayer, Version};
 use std::alloc::Global;
-use std::process::Abort;
 use std::sync::Arc;
 use std::test::Fail;
 use uni_base::{Audience, Limits, read_id};
@@ -44,19 +43,24 @@ fn nothing(alloc: Global) -> Result<Table, Fail> {
     Ok(Table::new(alloc, schema, Limits::standard()))
 }
 
-fn small(rt: &impl Abort, alloc: Global) -> Result<Table, Fail> {
+fn small(alloc: Global) -> Result<Table, Fail> {
     let mut table = nothing(alloc)?;
-    for line in ROWS.split(|byte| *byte == b'|') {
-        assert!(rt; is_put(&mut table, line));
+    for (number, line) in ROWS.split(|byte| *byte == b'|').enumerate() {
+        if !is_put(&mut table, line) {
+            return Err(Fail::new(number));
+        }
     }
     Ok(table)
 }
 
-// Looks for what steps say, which semicolons part.
-fn follow(rt: &impl Abort, alloc: Global, index: &ShardIndex, steps: &[u8]) {
+// Looks for what steps say, which semicolons part. Fails at the number of the first that is not so.
+fn follow(alloc: Global, index: &ShardIndex, steps: &[u8]) -> Result<(), Fail> {
     for (number, step) in steps.split(|byte| *byte == b';').enumerate() {
-        assert!(rt; is_met(alloc, index, step) == Some(true), "at {number}");
+        if is_met(alloc, index, step) != Some(true) {
+            return Err(Fail::new(number));
+        }
     }
+    Ok(())
 }
 
 fn shard(alloc: Global, table: &Table, vertical: u16, shard: u32) -> Result<ShardIndex, Fail> {
@@ -66,33 +70,31 @@ fn shard(alloc: Global, table: &Table, vertical: u16, shard: u32) -> Result<Shar
     Ok(ShardIndex::rebuild(alloc, table, vertical, shard)?)
 }
 
-// Follows steps over a shard of the small table.
-fn follow_shard(
-    rt: &impl Abort,
-    alloc: Global,
-    vertical: u16,
-    number: u32,
-    steps: &[u8],
-) -> Result<(), Fail> {
-    let table = small(rt, alloc)?;
-    let index = shard(alloc, &table, vertical, number)?;
-    follow(rt, alloc, &index, steps);
-    Ok(())
+// A shard of the small table.
+fn small_shard(alloc: Global, vertical: u16, number: u32) -> Result<ShardIndex, Fail> {
+    let table = small(alloc)?;
+    shard(alloc, &table, vertical, number)
+}
+
+// Follows steps over it.
+fn follow_shard(alloc: Global, vertical: u16, number: u32, steps: &[u8]) -> Result<(), Fail> {
+    let index = small_shard(alloc, vertical, number)?;
+    follow(alloc, &index, steps)
 }
 
 #[test]
 fn even_users(rt: HostRuntime) -> Result<(), Fail> {
-    follow_shard(&rt, rt.alloc(), 0, 0, EVEN)
+    follow_shard(rt.alloc(), 0, 0, EVEN)
 }
 
 #[test]
 fn odd_users(rt: HostRuntime) -> Result<(), Fail> {
-    follow_shard(&rt, rt.alloc(), 0, 1, ODD)
+    follow_shard(rt.alloc(), 0, 1, ODD)
 }
 
 #[test]
 fn photos(rt: HostRuntime) -> Result<(), Fail> {
-    follow_shard(&rt, rt.alloc(), 1, 0, PHOTOS)
+    follow_shard(rt.alloc(), 1, 0, PHOTOS)
 }
 
 // Moves user 5 to another rank, and removes user 3.
@@ -150,24 +152,21 @@ fn with_layer(index: &ShardIndex, layer: &ShardLayer) -> Result<ShardIndex, Fail
     Ok(next)
 }
 
-fn changed(rt: &impl Abort, alloc: Global, vertical: u16) -> Result<ShardIndex, Fail> {
-    let table = small(rt, alloc)?;
-    let base = shard(alloc, &table, vertical, 1 - vertical.min(1) as u32)?;
+fn changed(alloc: Global, vertical: u16) -> Result<ShardIndex, Fail> {
+    let base = small_shard(alloc, vertical, 1 - vertical.min(1) as u32)?;
     with_layer(&base, &changes(alloc)?)
 }
 
 #[test]
 fn a_layer_changes_users(rt: HostRuntime) -> Result<(), Fail> {
-    let index = changed(&rt, rt.alloc(), 0)?;
-    follow(&rt, rt.alloc(), &index, CHANGED);
-    Ok(())
+    let index = changed(rt.alloc(), 0)?;
+    follow(rt.alloc(), &index, CHANGED)
 }
 
 #[test]
 fn a_layer_changes_a_photo(rt: HostRuntime) -> Result<(), Fail> {
-    let index = changed(&rt, rt.alloc(), 1)?;
-    follow(&rt, rt.alloc(), &index, HIDDEN);
-    Ok(())
+    let index = changed(rt.alloc(), 1)?;
+    follow(rt.alloc(), &index, HIDDEN)
 }
 
 // The index with its oldest layer replaced by an empty one.
@@ -180,38 +179,34 @@ fn cleared(alloc: Global, index: &ShardIndex) -> Result<ShardIndex, Fail> {
 
 #[test]
 fn the_oldest_layer_is_replaced(rt: HostRuntime) -> Result<(), Fail> {
-    let index = changed(&rt, rt.alloc(), 1)?;
+    let index = changed(rt.alloc(), 1)?;
     let cleared = cleared(rt.alloc(), &index)?;
-    follow(&rt, rt.alloc(), &cleared, CLEARED);
-    Ok(())
+    follow(rt.alloc(), &cleared, CLEARED)
 }
 
-// Follows steps over the stack of a replica of a shard, if there is one.
-fn follow_stack(
-    rt: &impl Abort,
-    alloc: Global,
-    version: &Version,
-    replica: u32,
-    steps: &[u8],
-) -> Option<()> {
+// Follows steps over the stack of a replica of the second shard of users.
+fn follow_stack(alloc: Global, version: &Version, replica: u32, steps: &[u8]) -> Result<(), Fail> {
     if version.schema().verticals() == 0 {
-        return None;
+        return Err("no vertical")?;
     }
     let declared = version.schema().vertical(0);
     if declared.shards <= 1 || replica >= declared.replicas {
-        return None;
+        return Err("no such stack")?;
     }
-    follow(rt, alloc, version.shard(0, 1, replica), steps);
-    Some(())
+    follow(alloc, version.shard(0, 1, replica), steps)
+}
+
+// The version of the small table after seven publishes.
+fn seventh(alloc: Global) -> Result<Version, Fail> {
+    let table = small(alloc)?;
+    Ok(Version::of_table(alloc, &table, 7)?)
 }
 
 #[test]
 fn a_version_has_a_stack_for_each_replica(rt: HostRuntime) -> Result<(), Fail> {
-    let table = small(&rt, rt.alloc())?;
-    let version = Version::of_table(rt.alloc(), &table, 7)?;
-    follow_stack(&rt, rt.alloc(), &version, 1, ODD).ok_or("no stack")?;
-    assert_eq!(rt; (version.publishes(), version.stacks().len()), (7, 5));
-    Ok(())
+    let version = seventh(rt.alloc())?;
+    assert!(rt; version.publishes() == 7 && version.stacks().len() == 5);
+    follow_stack(rt.alloc(), &version, 1, ODD)
 }
 
 fn empty(alloc: Global) -> Result<Version, Fail> {
@@ -222,8 +217,8 @@ fn empty(alloc: Global) -> Result<Version, Fail> {
 #[test]
 fn a_version_with_other_stacks(rt: HostRuntime) -> Result<(), Fail> {
     let empty = empty(rt.alloc())?;
-    let next = empty.with_stacks(1, copies(rt.alloc(), &empty)?)?;
-    follow_stack(&rt, rt.alloc(), &next, 0, NOTHING).ok_or("no stack")?;
-    assert_eq!(rt; (empty.publishes(), next.publishes()), (0, 1));
-    Ok(())
+    let copies = copies(rt.alloc(), &empty)?;
+    let next = empty.with_stacks(1, copies)?;
+    assert!(rt; empty.publishes() == 0 && next.publishes() == 1);
+    follow_stack(rt.alloc(), &next, 0, NOTHING)
 }

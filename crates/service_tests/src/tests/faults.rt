@@ -2,10 +2,9 @@
 ghost use Rattle.std.specs.Prelude.{◌<◌};
 
 use super::{
-    FIRST, GRAPH, MODES, Mode, PUBLISHED, QUESTION, REPLY, add, ends, roomy, rows, text, whole,
+    FIRST, GRAPH, MODES, Mode, PUBLISHED, QUESTION, REPLY, add, ends, piece, roomy, rows, text,
 };
 use std::alloc::Global;
-use std::process::Abort;
 use std::sync::Wait;
 use std::test::Fail;
 use std::thread::Threads;
@@ -96,8 +95,35 @@ fn failing(alloc: Global, most: usize, fails: u64) -> Result<MemorySink, Fail>
     Ok(MemorySink::new(alloc, 65_536, most, vec![in alloc; fails]?)?)
 }
 
+// Answers a script in pieces of so many bytes, the read after some of them failing.
+fn read_fails<R: Threads + Wait + Sync>(
+    rt: &R,
+    alloc: Global,
+    mode: Mode,
+    script: &[u8],
+    size: usize,
+    before: usize,
+    want: (&[u8], u8),
+) -> Result<(), Fail>
+    requires { 0 < size }
+{
+    let parts = pieces(alloc, script, size)?;
+    let fails = vec![in alloc; (before as u64).saturating_add(1)]?;
+    let mut source = MemorySource::new(parts, fails);
+    let mut sink = roomy(alloc)?;
+    ends(
+        rt,
+        alloc,
+        mode,
+        Limits::standard(),
+        &mut source,
+        &mut sink,
+        want,
+    )
+}
+
 // A read of each number fails; the last one finds the end.
-fn reads_fail<R: Abort + Threads + Wait + Sync>(
+fn reads_fail<R: Threads + Wait + Sync>(
     rt: &R,
     alloc: Global,
     mode: Mode,
@@ -108,28 +134,16 @@ fn reads_fail<R: Abort + Threads + Wait + Sync>(
     let (script, _) = rounds(alloc)?;
     let reads = script.len().div_ceil(size).saturating_add(1);
     for before in 0..=reads {
-        let parts = pieces(alloc, script.as_slice(), size)?;
-        let fails = vec![in alloc; (before as u64).saturating_add(1)]?;
-        let mut source = MemorySource::new(parts, fails);
-        let mut sink = roomy(alloc)?;
         let ended = before == reads;
         let text = closed(alloc, before.saturating_mul(size), ended)?;
         let want = (text.as_slice(), if ended { 0 } else { 4 });
-        ends(
-            rt,
-            alloc,
-            mode,
-            Limits::standard(),
-            &mut source,
-            &mut sink,
-            want,
-        );
+        read_fails(rt, alloc, mode, script.as_slice(), size, before, want)?;
     }
     Ok(())
 }
 
 // A write of each number fails. With room for all of a round there are three writes.
-fn writes_fail<R: Abort + Threads + Wait + Sync>(
+fn writes_fail<R: Threads + Wait + Sync>(
     rt: &R,
     alloc: Global,
     mode: Mode,
@@ -139,23 +153,29 @@ fn writes_fail<R: Abort + Threads + Wait + Sync>(
 {
     let (script, answers) = rounds(alloc)?;
     for before in 0..72 {
-        let mut source = whole(alloc, text(alloc, &[script.as_slice()])?)?;
-        let mut sink = failing(alloc, most, before as u64 + 1)?;
         let text = taken(alloc, most, before)?;
         let faults = if text.len() == answers.len() { 0 } else { 1 };
         let want = (text.as_slice(), if faults == 0 { 0 } else { 5 });
-        ends(
-            rt,
-            alloc,
-            mode,
-            Limits::standard(),
-            &mut source,
-            &mut sink,
-            want,
-        );
-        assert_eq!(rt; sink.faults(), faults);
+        let mut sink = failing(alloc, most, before as u64 + 1)?;
+        write_fails(rt, alloc, mode, script.as_slice(), &mut sink, want)?;
+        if sink.faults() != faults {
+            return Err(Fail::new(before));
+        }
     }
     Ok(())
+}
+
+// Answers a script whose write of a number fails.
+fn write_fails<R: Threads + Wait + Sync>(
+    rt: &R,
+    alloc: Global,
+    mode: Mode,
+    script: &[u8],
+    sink: &mut MemorySink,
+    want: (&[u8], u8),
+) -> Result<(), Fail> {
+    let mut source = piece(alloc, script)?;
+    ends(rt, alloc, mode, Limits::standard(), &mut source, sink, want)
 }
 
 #[test]
@@ -169,75 +189,81 @@ fn each_read_and_write_fails_in_turn(rt: HostRuntime) -> Result<(), Fail> {
     Ok(())
 }
 
+// Answers the graph and a question in two pieces, a read of a number failing.
+fn ends_at_read<R: Threads + Wait + Sync>(
+    rt: &R,
+    alloc: Global,
+    mode: Mode,
+    fails: u64,
+    want: (&[u8], u8),
+) -> Result<(), Fail> {
+    let mut source = two_pieces(alloc, fails)?;
+    let mut sink = roomy(alloc)?;
+    ends(
+        rt,
+        alloc,
+        mode,
+        Limits::standard(),
+        &mut source,
+        &mut sink,
+        want,
+    )
+}
+
 // The third read, which finds the end, fails or not.
 #[test]
 fn the_end_cannot_be_read(rt: HostRuntime) -> Result<(), Fail> {
     let first = text(rt.alloc(), &[PUBLISHED])?;
     let both = text(rt.alloc(), &[PUBLISHED, REPLY])?;
     for mode in MODES {
-        let mut source = two_pieces(rt.alloc(), 3)?;
-        let mut sink = roomy(rt.alloc())?;
-        let want = (first.as_slice(), 4);
-        ends(
-            &rt,
-            rt.alloc(),
-            mode,
-            Limits::standard(),
-            &mut source,
-            &mut sink,
-            want,
-        );
-        let mut source = two_pieces(rt.alloc(), 4)?;
-        let mut sink = roomy(rt.alloc())?;
-        let want = (both.as_slice(), 0);
-        ends(
-            &rt,
-            rt.alloc(),
-            mode,
-            Limits::standard(),
-            &mut source,
-            &mut sink,
-            want,
-        );
+        ends_at_read(&rt, rt.alloc(), mode, 3, (first.as_slice(), 4))?;
+        ends_at_read(&rt, rt.alloc(), mode, 4, (both.as_slice(), 0))?;
     }
     Ok(())
 }
 
-// The second write fails, and nothing is read after it: the second read would fail too. Where each
-// of two rounds with answers is taken in one piece, there is no third write that could fail; a
+// The second write fails, and nothing is read after it: the second read would fail too.
+fn ends_at_write<R: Threads + Wait + Sync>(rt: &R, alloc: Global, mode: Mode) -> Result<(), Fail> {
+    let mut source = two_pieces(alloc, 2)?;
+    let mut sink = failing(alloc, 10, 2)?;
+    ends(
+        rt,
+        alloc,
+        mode,
+        Limits::standard(),
+        &mut source,
+        &mut sink,
+        (b"published ", 5),
+    )?;
+    if source.faults() != 0 {
+        return Err("a read after the fault")?;
+    }
+    Ok(())
+}
+
+// Where each of two rounds with answers is taken in one piece, there is no third write that could fail; a
 // round without answers is not offered.
+fn takes_rounds<R: Threads + Wait + Sync>(
+    rt: &R,
+    alloc: Global,
+    mode: Mode,
+    script: &[u8],
+    want: &[u8],
+) -> Result<(), Fail> {
+    let mut sink = failing(alloc, 65_536, 3)?;
+    write_fails(rt, alloc, mode, script, &mut sink, (want, 0))
+}
+
 #[test]
 fn writes_of_whole_rounds(rt: HostRuntime) -> Result<(), Fail> {
     let more = [FIRST, GRAPH, b"go|# nothing|go|", QUESTION, b"go|gone 77|"];
     let reply =
         b"reply 36 at 1 hits 3|hit 2 via friend:1>2|hit 3 via friend:1>3|hit 5 via friend:1>5|";
+    let script = text(rt.alloc(), &more)?;
     let both = text(rt.alloc(), &[PUBLISHED, reply])?;
     for mode in MODES {
-        let mut source = two_pieces(rt.alloc(), 2)?;
-        let mut sink = failing(rt.alloc(), 10, 2)?;
-        let want = (b"published ".as_slice(), 5);
-        ends(
-            &rt,
-            rt.alloc(),
-            mode,
-            Limits::standard(),
-            &mut source,
-            &mut sink,
-            want,
-        );
-        assert_eq!(rt; source.faults(), 0);
-        let mut source = whole(rt.alloc(), text(rt.alloc(), &more)?)?;
-        let mut sink = failing(rt.alloc(), 65_536, 3)?;
-        let want = (both.as_slice(), 0);
-        ends(
-            &rt,
-            rt.alloc(),
-            mode,
-            Limits::standard(),
-            &mut source,
-            &mut sink,
-            want,
-        );
+        ends_at_write(&rt, rt.alloc(), mode)?;
+        takes_rounds(&rt, rt.alloc(), mode, script.as_slice(), both.as_slice())?;
     }
     Ok(())
 }

@@ -458,21 +458,33 @@ fn forged(alloc: Global, whole: &[u8], part: &[u8], other: &[u8]) -> Result<Text
     Err("nothing to forge")?
 }
 
+// An output with the forgery of a row: a part, a sign of equality, and what is in its place.
+fn forged_by(alloc: Global, output: &[u8], row: &[u8]) -> Result<Text, Fail> {
+    let (part, other) = cut_at(row, b'=').ok_or("no row")?;
+    let part = text(alloc, &[part])?;
+    let other = text(alloc, &[other])?;
+    forged(alloc, output, part.as_slice(), other.as_slice())
+}
+
+// Fails at the number of the first forgery that is not found to be what it is.
+fn are_found(alloc: Global, script: &[u8], output: &[u8]) -> Result<(), Fail> {
+    let forgeries = rows(alloc, FORGED)?;
+    for (number, row) in forgeries.iter().enumerate() {
+        let made = forged_by(alloc, output, row.as_slice())?;
+        let verdict = judge(alloc, script, made.as_slice())?;
+        if FOUND.get(number) != Some(&verdict) {
+            return Err(Fail::new(number));
+        }
+    }
+    Ok(())
+}
+
 #[test]
 fn forged_outputs_are_refused(rt: HostRuntime) -> Result<(), Fail> {
     let alloc = rt.alloc();
     let script = text(alloc, &[FIRST, GRAPH, ROUNDS])?;
     let sink = plainly(alloc, script.as_slice())?;
     let verdict = judge(alloc, script.as_slice(), sink.bytes())?;
-    assert_eq!(rt; verdict, Verdict::Right);
-    let forgeries = rows(alloc, FORGED)?;
-    for (row, want) in forgeries.iter().zip(FOUND) {
-        let (part, other) = cut_at(row.as_slice(), b'=').ok_or("no row")?;
-        let part = text(alloc, &[part])?;
-        let other = text(alloc, &[other])?;
-        let output = forged(alloc, sink.bytes(), part.as_slice(), other.as_slice())?;
-        let verdict = judge(alloc, script.as_slice(), output.as_slice())?;
-        assert_eq!(rt; verdict, want);
-    }
-    Ok(())
+    assert!(rt; verdict == Verdict::Right);
+    are_found(alloc, script.as_slice(), sink.bytes())
 }

@@ -2,7 +2,6 @@
 use super::judge::{Verdict, judge};
 use super::{FIRST, GRAPH, Mode, add, served, text};
 use std::alloc::Global;
-use std::process::Abort;
 use std::sync::Wait;
 use std::test::Fail;
 use std::thread::Threads;
@@ -103,7 +102,7 @@ fn answer<R: Threads + Wait + Sync>(
     }
 }
 
-fn is_right<R: Abort + Threads + Wait + Sync>(
+fn is_right<R: Threads + Wait + Sync>(
     rt: &R,
     alloc: Global,
     script: &[u8],
@@ -111,7 +110,9 @@ fn is_right<R: Abort + Threads + Wait + Sync>(
 ) -> Result<(), Fail> {
     let sink = answer(rt, alloc, script, mode)?;
     let verdict = judge(alloc, script, sink.bytes())?;
-    assert_eq!(rt; verdict, Verdict::Right, "{mode:?}");
+    if verdict != Verdict::Right {
+        return Err("an answer is wrong")?;
+    }
     Ok(())
 }
 

@@ -4,7 +4,9 @@ use super::{
     CREWS, FIRST, GRAPH, PUBLISHED, are_answered, are_answered_in_line, rows, served, text,
 };
 use std::alloc::Global;
+use std::sync::Wait;
 use std::test::Fail;
+use std::thread::Threads;
 use uni_base::{Limits, Text, cut_at};
 use unicorn_round::{FirstChooser, OpenGate, TurnChooser};
 
@@ -145,23 +147,52 @@ fn versions_and_their_stacks(rt: HostRuntime) -> Result<(), Fail> {
     are_answered_in_line(&rt, rt.alloc(), FIRST, COMPACTED)
 }
 
+// Whether the compaction covers what it may, and the whole answer is right.
+fn is_compacted_well<R: Threads + Wait + Sync>(
+    rt: &R,
+    alloc: Global,
+    script: &[u8],
+    workers: u32,
+) -> Result<bool, Fail> {
+    let sink = served(rt, alloc, script, workers, &TurnChooser, &OpenGate)?;
+    let output = sink.bytes();
+    Ok(is_compacted(alloc, output)? && judge(alloc, script, output)? == Verdict::Right)
+}
+
 // The compaction covers one, two or three publishes.
 #[test]
 fn a_compaction_beside_publishes(rt: HostRuntime) -> Result<(), Fail> {
     let alloc = rt.alloc();
     let script = script_of(alloc, COMPACTED)?;
     for workers in CREWS {
-        let sink = served(
-            &rt,
-            alloc,
-            script.as_slice(),
-            workers,
-            &TurnChooser,
-            &OpenGate,
-        )?;
-        assert!(rt; is_compacted(alloc, sink.bytes())?, "{workers}");
-        let verdict = judge(alloc, script.as_slice(), sink.bytes())?;
-        assert_eq!(rt; verdict, Verdict::Right, "{workers}");
+        if !is_compacted_well(&rt, alloc, script.as_slice(), workers)? {
+            return Err(Fail::new(workers));
+        }
+    }
+    Ok(())
+}
+
+// Whether a service of so many workers answers a script with a text.
+fn is_served<R: Threads + Wait + Sync>(
+    rt: &R,
+    alloc: Global,
+    script: &[u8],
+    workers: u32,
+    want: &[u8],
+) -> Result<bool, Fail> {
+    let sink = served(rt, alloc, script, workers, &FirstChooser, &OpenGate)?;
+    Ok(sink.bytes() == want)
+}
+
+// Whether a row's lines are answered as it says. Fails at the first number of workers by which they are not.
+fn are_tidied<R: Threads + Wait + Sync>(rt: &R, alloc: Global, row: &[u8]) -> Result<(), Fail> {
+    let (_, want) = cut_at(row, b'=').ok_or("no row")?;
+    let script = script_of(alloc, row)?;
+    let want = text(alloc, &[PUBLISHED, want])?;
+    for workers in CREWS {
+        if !is_served(rt, alloc, script.as_slice(), workers, want.as_slice())? {
+            return Err(Fail::new(workers));
+        }
     }
     Ok(())
 }
@@ -169,24 +200,24 @@ fn a_compaction_beside_publishes(rt: HostRuntime) -> Result<(), Fail> {
 // Where nobody asks and nobody compacts, there is one answer.
 #[test]
 fn stacks_are_tidied(rt: HostRuntime) -> Result<(), Fail> {
-    let alloc = rt.alloc();
-    for row in rows(alloc, STACKS)?.as_slice() {
-        let script = script_of(alloc, row.as_slice())?;
-        let (_, want) = cut_at(row.as_slice(), b'=').ok_or("no row")?;
-        let want = text(alloc, &[PUBLISHED, want])?;
-        for workers in CREWS {
-            let sink = served(
-                &rt,
-                alloc,
-                script.as_slice(),
-                workers,
-                &FirstChooser,
-                &OpenGate,
-            )?;
-            assert_eq!(rt; sink.bytes(), want.as_slice(), "{workers}");
-        }
+    let rows = rows(rt.alloc(), STACKS)?;
+    for row in rows.as_slice() {
+        are_tidied(&rt, rt.alloc(), row.as_slice())?;
     }
     Ok(())
+}
+
+// Whether the replies have their hits, and the whole answer is right.
+fn have_their_hits<R: Threads + Wait + Sync>(
+    rt: &R,
+    alloc: Global,
+    script: &[u8],
+    workers: u32,
+) -> Result<bool, Fail> {
+    let sink = served(rt, alloc, script, workers, &TurnChooser, &OpenGate)?;
+    let output = sink.bytes();
+    let hits = replies_with_their_hits(alloc, output)?;
+    Ok(hits == 24 && judge(alloc, script, output)? == Verdict::Right)
 }
 
 // Each reply has the hits of the number that it states, in the last round that of all publishes.
@@ -196,18 +227,9 @@ fn questions_beside_publishes(rt: HostRuntime) -> Result<(), Fail> {
     let script = script_of(alloc, BESIDE)?;
     for workers in CREWS {
         for _ in 0..20 {
-            let sink = served(
-                &rt,
-                alloc,
-                script.as_slice(),
-                workers,
-                &TurnChooser,
-                &OpenGate,
-            )?;
-            let output = sink.bytes();
-            assert_eq!(rt; replies_with_their_hits(alloc, output)?, 24, "{workers}");
-            let verdict = judge(alloc, script.as_slice(), output)?;
-            assert_eq!(rt; verdict, Verdict::Right, "{workers}");
+            if !have_their_hits(&rt, alloc, script.as_slice(), workers)? {
+                return Err(Fail::new(workers));
+            }
         }
     }
     Ok(())

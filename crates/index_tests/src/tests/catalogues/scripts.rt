@@ -6,7 +6,6 @@ use crate::tests::ROWS;
 use crate::tests::alike::are_alike;
 use shard_index::{ShardIndex, Version};
 use std::alloc::Global;
-use std::process::Abort;
 use std::sync::Wait;
 use std::test::Fail;
 use std::thread::Threads;
@@ -132,32 +131,47 @@ fn is_made<R: Threads + Wait + Sync>(
     Some(opened.is_put(step))
 }
 
-fn follow<R: Threads + Wait + Sync + Abort>(
+// Fails at the number of the first step that is not made.
+fn follow<R: Threads + Wait + Sync>(
     rt: &R,
     alloc: Global,
     opened: &mut Opened,
     script: &[u8],
-) {
+) -> Result<(), Fail> {
     for (step_no, step) in script.split(|byte| *byte == b';').enumerate() {
-        assert!(rt;
-            is_made(rt, alloc, opened, step) == Some(true),
-            "at {step_no}"
-        );
+        if is_made(rt, alloc, opened, step) != Some(true) {
+            return Err(Fail::new(step_no));
+        }
     }
+    Ok(())
 }
 
-fn follow_all<R: Threads + Wait + Sync + Abort>(
+fn are_put(opened: &mut Opened, rows: &[u8]) -> bool {
+    for line in rows.split(|byte| *byte == b'|') {
+        if !opened.is_put(line) {
+            return false;
+        }
+    }
+    true
+}
+
+fn follow_all<R: Threads + Wait + Sync>(rt: &R, alloc: Global, script: &[u8]) -> Result<(), Fail> {
+    let mut opened = Opened::new(rt, alloc, Limits::standard()).ok_or("no catalogue")?;
+    follow_rows(rt, alloc, &mut opened, script)
+}
+
+// Puts the rows, publishes them, and follows a script.
+fn follow_rows<R: Threads + Wait + Sync>(
     rt: &R,
     alloc: Global,
+    opened: &mut Opened,
     script: &[u8],
 ) -> Result<(), Fail> {
-    let mut opened = Opened::new(rt, alloc, Limits::standard()).ok_or("no catalogue")?;
-    for line in ROWS.split(|byte| *byte == b'|') {
-        assert!(rt; opened.is_put(line));
+    if !are_put(opened, ROWS) {
+        return Err("a row is refused")?;
     }
-    follow(rt, alloc, &mut opened, b"publish 1");
-    follow(rt, alloc, &mut opened, script);
-    Ok(())
+    follow(rt, alloc, opened, b"publish 1")?;
+    follow(rt, alloc, opened, script)
 }
 
 #[test]
@@ -168,27 +182,36 @@ fn layers_by_publishes_and_compactions(rt: HostRuntime) -> Result<(), Fail> {
     follow_all(&rt, rt.alloc(), CHANGES)
 }
 
+const FULL: &[u8] = b"publish 1;publish 2;entity user 7 8";
+
+const STILL: &[u8] = b"layers 3 3 3 3 3;newest 0 0 0 0 0;entries 0 0 0 0 0";
+
+// Whether a publish is refused at the limit of two, and an entity is still pending.
+fn is_refused<R: Wait>(rt: &R, opened: &mut Opened) -> bool {
+    opened.publish(rt) == Some(Err(PublishRefusal::TooMany(2)))
+        && opened.feeder.table().entities() == 1
+        && opened.feeder.sessions() == 1
+}
+
 // At the limit a publish is refused, and the pending batch stays; pins and compactions go on.
+fn goes_on<R: Threads + Wait + Sync>(
+    rt: &R,
+    alloc: Global,
+    opened: &mut Opened,
+) -> Result<bool, Fail> {
+    follow(rt, alloc, opened, FULL)?;
+    if !is_refused(rt, opened) {
+        return Ok(false);
+    }
+    follow(rt, alloc, opened, STILL)?;
+    Ok(opened.compact(rt, 1, 0, 0) == Some(2))
+}
+
 #[test]
 fn a_publish_at_the_limit(rt: HostRuntime) -> Result<(), Fail> {
-    let alloc = rt.alloc();
     let mut limits = Limits::standard();
     limits.publishes = 2;
-    let mut opened = Opened::new(&rt, alloc, limits).ok_or("no catalogue")?;
-    follow(
-        &rt,
-        alloc,
-        &mut opened,
-        b"publish 1;publish 2;entity user 7 8",
-    );
-    assert!(rt; opened.publish(&rt) == Some(Err(PublishRefusal::TooMany(2))));
-    assert!(rt; opened.feeder.table().entities() == 1 && opened.feeder.sessions() == 1);
-    follow(
-        &rt,
-        alloc,
-        &mut opened,
-        b"layers 3 3 3 3 3;newest 0 0 0 0 0;entries 0 0 0 0 0",
-    );
-    assert!(rt; opened.compact(&rt, 1, 0, 0) == Some(2));
+    let mut opened = Opened::new(&rt, rt.alloc(), limits).ok_or("no catalogue")?;
+    assert!(rt; goes_on(&rt, rt.alloc(), &mut opened)?);
     Ok(())
 }

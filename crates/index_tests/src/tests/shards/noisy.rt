@@ -4,7 +4,6 @@ use super::nothing;
 use crate::tests::is_put;
 use crate::tests::noise::{Noise, any_line};
 use std::alloc::Global;
-use std::process::Abort;
 use std::test::Fail;
 use uni_table::Table;
 
@@ -67,27 +66,28 @@ fn is_list_read(alloc: Global, table: &mut Table, case: u64, number: u16) -> Opt
 }
 
 // 300 lists of ten batches, over a shard: ranks change, users and photos go and may come back as the
-// other, edges end, and photos show nobody any more.
-fn follow_lists(rt: &impl Abort, alloc: Global, number: u16) -> Result<(), Fail> {
+// other, edges end, and photos show nobody any more. Fails at the first list that is read otherwise.
+fn follow_lists(alloc: Global, number: u16) -> Result<(), Fail> {
     for case in 0..300u64 {
         let mut table = nothing(alloc)?;
-        let is_read = is_list_read(alloc, &mut table, case, number) == Some(true);
-        assert!(rt; is_read, "case {case}");
+        if is_list_read(alloc, &mut table, case, number) != Some(true) {
+            return Err(Fail::new(case));
+        }
     }
     Ok(())
 }
 
 #[test]
 fn even_users_by_layers(rt: HostRuntime) -> Result<(), Fail> {
-    follow_lists(&rt, rt.alloc(), 0)
+    follow_lists(rt.alloc(), 0)
 }
 
 #[test]
 fn odd_users_by_layers(rt: HostRuntime) -> Result<(), Fail> {
-    follow_lists(&rt, rt.alloc(), 1)
+    follow_lists(rt.alloc(), 1)
 }
 
 #[test]
 fn photos_by_layers(rt: HostRuntime) -> Result<(), Fail> {
-    follow_lists(&rt, rt.alloc(), 2)
+    follow_lists(rt.alloc(), 2)
 }

@@ -4,7 +4,6 @@ use super::reading::is_met;
 use super::small;
 use crate::tests::is_put;
 use std::alloc::Global;
-use std::process::Abort;
 use std::test::Fail;
 use uni_base::{cut_at, read_between};
 use uni_table::Table;
@@ -62,40 +61,45 @@ fn is_made(
     Some(is_put(table, step))
 }
 
-// Follows a script over a shard of the small table.
-fn follow(rt: &impl Abort, alloc: Global, number: u16, script: &[u8]) -> Result<(), Fail> {
-    let mut table = small(rt, alloc)?;
+// Follows a script over a shard of the small table. Fails at the number of the first step that is not made.
+fn follow(alloc: Global, number: u16, script: &[u8]) -> Result<(), Fail> {
+    let mut table = small(alloc)?;
+    follow_over(alloc, &mut table, number, script)
+}
+
+fn follow_over(alloc: Global, table: &mut Table, number: u16, script: &[u8]) -> Result<(), Fail> {
     let mut shard = LayeredShard::new(alloc, number).ok_or("no shard")?;
     for (step_no, step) in script.split(|byte| *byte == b';').enumerate() {
-        let is_made = is_made(alloc, &mut shard, &mut table, step) == Some(true);
-        assert!(rt; is_made, "shard {number} at {step_no}");
+        if is_made(alloc, &mut shard, table, step) != Some(true) {
+            return Err(Fail::new(step_no));
+        }
     }
     Ok(())
 }
 
 // Follows a script over each shard.
-fn follow_all(rt: &impl Abort, alloc: Global, script: &[u8]) -> Result<(), Fail> {
+fn follow_all(alloc: Global, script: &[u8]) -> Result<(), Fail> {
     for number in 0..3 {
-        follow(rt, alloc, number, script)?;
+        follow(alloc, number, script)?;
     }
     Ok(())
 }
 
 #[test]
 fn a_small_table_by_layers(rt: HostRuntime) -> Result<(), Fail> {
-    follow_all(&rt, rt.alloc(), SMALL)
+    follow_all(rt.alloc(), SMALL)
 }
 
 #[test]
 fn changes_by_layers(rt: HostRuntime) -> Result<(), Fail> {
-    follow_all(&rt, rt.alloc(), MOVED)?;
-    follow_all(&rt, rt.alloc(), GONE)?;
-    follow_all(&rt, rt.alloc(), HIDDEN)
+    follow_all(rt.alloc(), MOVED)?;
+    follow_all(rt.alloc(), GONE)?;
+    follow_all(rt.alloc(), HIDDEN)
 }
 
 #[test]
 fn ends_by_layers(rt: HostRuntime) -> Result<(), Fail> {
-    follow_all(&rt, rt.alloc(), ENDS_LATER)?;
-    follow_all(&rt, rt.alloc(), ENDS_AT_ONCE)?;
-    follow_all(&rt, rt.alloc(), ENDS_WHAT_STOOD)
+    follow_all(rt.alloc(), ENDS_LATER)?;
+    follow_all(rt.alloc(), ENDS_AT_ONCE)?;
+    follow_all(rt.alloc(), ENDS_WHAT_STOOD)
 }

@@ -1,4 +1,4 @@
-use Rattle.std.proofs.Common.{◌≡◌, ◌+◌, ◌-◌, ◌≤◌, All}
+use Rattle.std.proofs.Common.{◌+◌, ◌-◌, ◌≤◌, All}
 use mathlib.Core.List.{IsPrefix}
 use Rattle.version_catalog.specs.Bases.{IsBaseAfter}
 use Rattle.version_catalog.specs.Seats.{settings_of, compactor_journal, compactor_turns, IsCompactorOf}

@@ -1,4 +1,4 @@
-use Rattle.std.proofs.Common.{◌≡◌, ◌+◌, ◌-◌, ◌*◌, ◌≤◌, length}
+use Rattle.std.proofs.Common.{◌+◌, ◌-◌, ◌*◌, ◌≤◌, length}
 use mathlib.Core.List.{IsPrefix}
 use Rattle.version_catalog.specs.Seats.{compactor_journal, compactor_turns, IsCompactorOf}
 use Rattle.version_catalog.proofs.catalogue.Catalogue.compact_stacks.Given as goal

@@ -1,5 +1,0 @@
-use Rattle.uni_table.specs.Commands.{IsDeclared}
-use Rattle.apply_extract.proofs.tests.large.are_put.Given as goal
-
-abbrev pub invariant-loop-number : goal.invariant-loop-number
-invariant-loop-number l = IsDeclared l.table.schema l.command

@@ -1,5 +1,0 @@
-use Rattle.std.proofs.Common.{◌≡◌, ◌+◌, false}
-use Rattle.uni_meaning.proofs.tests.schema.Given as goal
-
-abbrev pub invariant-loop-line_no : goal.invariant-loop-line_no
-invariant-loop-line_no l = (l.line_no ≡ l.header.taken + 1) × (l.header.ended ≡ false)
