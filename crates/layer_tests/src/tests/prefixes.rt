@@ -79,19 +79,18 @@ fn empty_stack(alloc: Global) -> Option<Stack> {
 fn noted(alloc: Global, rows: &[u8]) -> Option<Delta> {
     let mut delta = Delta::new(alloc);
     for row in rows.split(|byte| *byte == b';') {
-        let (front, row) = cut_at(row, b' ')?;
-        let (digit, word) = cut_at(row, b' ')?;
-        let type_no = (*front.get(1)? % 16) as u16;
-        let key = key((*digit.first()? % 16) as u64)?;
-        note(
-            &mut delta,
-            type_no,
-            Word::read(word)?,
-            key,
-            change(*front.first()?),
-        )?;
+        note_row(&mut delta, row)?;
     }
     Some(delta)
+}
+
+fn note_row(delta: &mut Delta, row: &[u8]) -> Option<()> {
+    let (front, row) = cut_at(row, b' ')?;
+    let (digit, word) = cut_at(row, b' ')?;
+    let type_no = (*front.get(1)? % 16) as u16;
+    let key = key((*digit.first()? % 16) as u64)?;
+    let word = Word::read(word)?;
+    note(delta, type_no, word, key, change(*front.first()?))
 }
 
 // The stack of layers of such rows, the oldest first, with a bar between any two.

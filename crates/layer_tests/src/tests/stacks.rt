@@ -213,6 +213,11 @@ fn is_at_end<C: DocCursor>(cursor: &mut C) -> Option<bool> {
 // Whether a stack has no posting of the first term, and that of the other one.
 fn is_emptied(alloc: Global, deletes: &[u8]) -> Option<bool> {
     let stack = emptied_stack(alloc, b"123", deletes)?;
+    Some(has_nothing(alloc, &stack)? && has_the_other(alloc, &stack)?)
+}
+
+// Whether a stack has no posting of the first term.
+fn has_nothing(alloc: Global, stack: &Stack) -> Option<bool> {
     let first = term(1)?;
     for k in 0..5 {
         if stack.find(&first, key(k)?).is_some() {
@@ -220,8 +225,14 @@ fn is_emptied(alloc: Global, deletes: &[u8]) -> Option<bool> {
         }
     }
     let mut cursor = stack.cursor(alloc, &first).ok()?;
-    let other = stack.cursor(alloc, &term(0)?).ok()?;
-    Some(cursor.posting().is_none() && is_at_end(&mut cursor)? && other.peek() == key(4))
+    Some(cursor.posting().is_none() && is_at_end(&mut cursor)?)
+}
+
+// Whether it has that of the other one.
+fn has_the_other(alloc: Global, stack: &Stack) -> Option<bool> {
+    let other = term(0)?;
+    let cursor = stack.cursor(alloc, &other).ok()?;
+    Some(cursor.peek() == key(4))
 }
 
 // Whether one posting is left of three.
@@ -251,16 +262,20 @@ const DELETED: &[u8] = b"m";
 // That layer, with other terms beside them.
 fn worded_layer(alloc: Global) -> Option<Layer> {
     let mut delta = Delta::new(alloc);
+    note_words(&mut delta)?;
+    Layer::build(alloc, delta).ok()
+}
+
+fn note_words(delta: &mut Delta) -> Option<()> {
     let key = key(1)?;
     let everybody = Some(Audience::Public);
     for text in WORDS.split(|byte| *byte == b' ') {
-        note(&mut delta, word_term(5, text)?, key, everybody)?;
+        note(delta, word_term(5, text)?, key, everybody)?;
     }
-    note(&mut delta, word_term(5, DELETED)?, key, None)?;
-    note(&mut delta, word_term(4, b"b")?, key, everybody)?;
-    note(&mut delta, word_term(6, b"z")?, key, everybody)?;
-    note(&mut delta, term(7)?, key, everybody)?;
-    Layer::build(alloc, delta).ok()
+    note(delta, word_term(5, DELETED)?, key, None)?;
+    note(delta, word_term(4, b"b")?, key, everybody)?;
+    note(delta, word_term(6, b"z")?, key, everybody)?;
+    note(delta, term(7)?, key, everybody)
 }
 
 // The least word of a type from a word on, or past it.
