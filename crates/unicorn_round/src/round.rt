@@ -163,13 +163,8 @@ fn feed_beside<R: Threads + Wait + Sync, C: Chooser + Sync, G: Gate + Sync>(
     ensures compacted { CompactionsDone catalogue.now compactions.now compactor.old compactor.new result.1.0 }
     ensures asked { AsksDone catalogue.now asks.now sessions.old sessions.new result.1.1 }
 {
-    join_mut(
+    let (others, fed) = join_mut(
         rt,
-        &mut || -> Result<AnswerList, AllocError>
-            requires sync { IsSync R.row × IsSync G.row }
-            requires feeder { MayTakeFeed catalogue.now feed.now feeder.now }
-            ensures fed { FeedDone catalogue.entry.now feed.entry.now feeder.entry.now feeder.exit.now result }
-        { feed_round(rt, alloc, catalogue, feeder, feed, gate) },
         &mut || -> (
             Result<AnswerList, AllocError>,
             Result<Vec<AnswerList>, AllocError>,
@@ -194,7 +189,13 @@ fn feed_beside<R: Threads + Wait + Sync, C: Chooser + Sync, G: Gate + Sync>(
                 gate,
             )
         },
-    )
+        &mut || -> Result<AnswerList, AllocError>
+            requires sync { IsSync R.row × IsSync G.row }
+            requires feeder { MayTakeFeed catalogue.now feed.now feeder.now }
+            ensures fed { FeedDone catalogue.entry.now feed.entry.now feeder.entry.now feeder.exit.now result }
+        { feed_round(rt, alloc, catalogue, feeder, feed, gate) },
+    );
+    (fed, others)
 }
 
 // The compactor works beside the sessions, where both have something to do.

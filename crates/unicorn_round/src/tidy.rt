@@ -21,6 +21,7 @@ use shard_index::Version;
 use std::alloc::{AllocError, Global};
 use std::sync::Wait;
 use std::thread::Threads;
+use uni_schema::Schema;
 use version_catalog::{Catalogue, Compactor, Feeder, StackId};
 
 /// Ends a round whose lines were worked on: all its answers, of which the last are those of the stacks that were
@@ -37,7 +38,6 @@ pub(crate) fn end_round<R: Threads + Wait + Sync, G: Gate>(
     workers: u32,
     gate: &G,
 ) -> Result<AnswerList, AllocError>
-    requires workers { 1 ≤ workers }
     requires feeder { IsFeederOf catalogue.now feeder.now }
     requires few { length (feeder_journal feeder.now) < 2 ^ 63 }
     requires compactor { MayCompact catalogue.now 8193 compactor.old }
@@ -49,13 +49,14 @@ pub(crate) fn end_round<R: Threads + Wait + Sync, G: Gate>(
     stacks.cover_all(parts.compactions.as_slice(), answers.compacted.as_slice());
     let made = feeder.publishes();
     let due = stacks.due(made)?;
+    let shards = at_once(feeder.table().schema(), workers);
     let missed = tidy_stacks(
         rt,
         alloc,
         catalogue,
         compactor,
         due.as_slice(),
-        workers,
+        shards,
         gate,
     )?;
     let untidied = stacks.due_among(made, missed.as_slice())?;
@@ -86,17 +87,29 @@ fn put_together(
     Ok(AnswerList::from_vec(said))
 }
 
-// Compacts stacks, those of as many shards as there are workers at a time, and tells those that were not.
+// How many shards are merged at a time: no more than there are workers, and at most a sixth of all where that is
+// one at least, so that what is merged takes little memory beside what stands.
+fn at_once(schema: &Schema, workers: u32) -> u32
+    ensures { 1 ≤ result }
+{
+    let mut shards = 0_u32;
+    for vertical in 0..schema.verticals() {
+        shards = shards.saturating_add(schema.vertical(vertical).shards);
+    }
+    (shards / 6).min(workers).max(1)
+}
+
+// Compacts stacks, those of so many shards at a time, and tells those that were not.
 fn tidy_stacks<R: Threads + Wait + Sync, G: Gate>(
     rt: &R,
     alloc: Global,
     catalogue: &Catalogue,
     compactor: &mut Compactor,
     due: &[StackCover],
-    workers: u32,
+    shards: u32,
     gate: &G,
 ) -> Result<Vec<StackCover>, AllocError>
-    requires workers { 1 ≤ workers }
+    requires shards { 1 ≤ shards }
     requires compactor { MayCompact catalogue.now (2 * length due.now + 1) compactor.old }
     requires stacks { AllByRecursion (IsStackOf (settings_of catalogue.now).schema) due.now }
     ensures { HasCompacted catalogue.now (2 * length due.now + 1) compactor.old compactor.new }
@@ -106,7 +119,7 @@ fn tidy_stacks<R: Threads + Wait + Sync, G: Gate>(
         return Ok(missed);
     }
     let ids = ids_of(alloc, due)?;
-    match catalogue.compact_stacks(rt, compactor, &ids, workers) {
+    match catalogue.compact_stacks(rt, compactor, &ids, shards) {
         Ok(pinned) => {
             let version = pinned.version();
             layered_in(rt, alloc, version, due, gate)
