@@ -16,7 +16,6 @@ use Rattle.script_rounds.specs.Terms.{Terms, under}
 use Rattle.script_rounds.specs.declared.item.Item.{Item}
 use Rattle.turn_lock.specs.declared.seats.Seat.{Seat}
 use Rattle.version_catalog.specs.Seats.{IsCompactorOf, IsFeederOf, compactor_turns, feeder_batch, feeder_journal, feeder_table, feeder_turns, settings_of}
-use Rattle.version_catalog.specs.Settings.{SettingsState}
 use Rattle.version_catalog.specs.declared.catalogue.Catalogue.{Catalogue}
 use Rattle.version_catalog.specs.declared.compactor.Compactor.{Compactor}
 use Rattle.version_catalog.specs.declared.entry.Entry.{Entry as Recorded}
@@ -122,13 +121,13 @@ module _ (catalogue : Catalogue) (items : List Item) (parts : Parts) (n : ℕ) w
   few_parts parted = (omega (arith, ap (length {A = Item}) parted.feed, few_fed items), omega (arith, ap (length {A = Item}) parted.compactions, few_compactions items))
 
 -- a service that was opened
-pub opened : (service : Service) (limits : Limits) (schema : Declarations) → settings_of service.catalogue ≡ record { schema = schema; limits = limits } → IsWithinStandard limits
+pub opened : (service : Service) (limits : Limits) (schema : Declarations) → ((settings_of service.catalogue).schema ≡ schema) × ((settings_of service.catalogue).limits ≡ limits) → IsWithinStandard limits
     → IsFeederOf service.catalogue service.feeder → feeder_journal service.feeder ≡ [] → feeder_batch service.feeder ≡ [] → (feeder_table service.feeder).contents ≡ empty → feeder_turns service.feeder ≡ 1
     → IsCompactorOf service.catalogue service.compactor → compactor_turns service.compactor ≡ 0 → AreNew service.catalogue limits.sessions service.sessions.items
     → service.stacks ≡ opening_stacks schema → AreStacks schema service.stacks
     → IsOpened service_terms IsReady ServiceStands (under limits schema) service
 opened service limits schema settings standard feeder journal batch table turns compactor none sessions opening are =
-    let terms : terms_of service.catalogue ≡ under limits schema = ap (λ (s : SettingsState). under s.limits s.schema) settings in
+    let terms : terms_of service.catalogue ≡ under limits schema = (λ i. under (settings.1 i) (settings.0 i)) in
     let feed : feed_of service.feeder ≡ opening_feed = (λ i. record { journal = journal i; batch = batch i; table = table i }) in
     record {
       is_under = terms;
@@ -141,7 +140,7 @@ opened service limits schema settings standard feeder journal batch table turns 
         compacted = omega (arith, none);
         sessions = sessions.each;
         count = sessions.long ∙ sym (ap (λ (t : Terms). t.limits.sessions) terms);
-        stacks = subst (λ (s : SettingsState). AreStacks s.schema service.stacks) (sym settings) are;
+        stacks = subst (λ s. AreStacks s service.stacks) (sym settings.0) are;
       };
       stands = record {
         said = [];

@@ -123,7 +123,6 @@ impl Service {
             &mut stacks,
             parts,
             answers,
-            workers,
             gate,
         )?;
         let service = Service {

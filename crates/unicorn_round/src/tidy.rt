@@ -21,7 +21,6 @@ use shard_index::Version;
 use std::alloc::{AllocError, Global};
 use std::sync::Wait;
 use std::thread::Threads;
-use uni_schema::Schema;
 use version_catalog::{Catalogue, Compactor, Feeder, StackId};
 
 /// Ends a round whose lines were worked on: all its answers, of which the last are those of the stacks that were
@@ -35,7 +34,6 @@ pub(crate) fn end_round<R: Threads + Wait + Sync, G: Gate>(
     stacks: &mut Stacks,
     parts: Parts,
     answers: RoundAnswers,
-    workers: u32,
     gate: &G,
 ) -> Result<AnswerList, AllocError>
     requires feeder { IsFeederOf catalogue.now feeder.now }
@@ -49,16 +47,7 @@ pub(crate) fn end_round<R: Threads + Wait + Sync, G: Gate>(
     stacks.cover_all(parts.compactions.as_slice(), answers.compacted.as_slice());
     let made = feeder.publishes();
     let due = stacks.due(made)?;
-    let shards = at_once(feeder.table().schema(), workers);
-    let missed = tidy_stacks(
-        rt,
-        alloc,
-        catalogue,
-        compactor,
-        due.as_slice(),
-        shards,
-        gate,
-    )?;
+    let missed = tidy_stacks(rt, alloc, catalogue, compactor, due.as_slice(), gate)?;
     let untidied = stacks.due_among(made, missed.as_slice())?;
     let mut tidied = Vec::new(alloc);
     stacks.answer_due(made, untidied.as_slice(), &mut tidied)?;
@@ -87,29 +76,16 @@ fn put_together(
     Ok(AnswerList::from_vec(said))
 }
 
-// How many shards are merged at a time: no more than there are workers, and at most a sixth of all where that is
-// one at least, so that what is merged takes little memory beside what stands.
-fn at_once(schema: &Schema, workers: u32) -> u32
-    ensures { 1 ≤ result }
-{
-    let mut shards = 0_u32;
-    for vertical in 0..schema.verticals() {
-        shards = shards.saturating_add(schema.vertical(vertical).shards);
-    }
-    (shards / 6).min(workers).max(1)
-}
-
-// Compacts stacks, those of so many shards at a time, and tells those that were not.
+// Compacts stacks, one shard after the other, so that what is merged stands beside few of those that it replaces.
+// It tells those that were not.
 fn tidy_stacks<R: Threads + Wait + Sync, G: Gate>(
     rt: &R,
     alloc: Global,
     catalogue: &Catalogue,
     compactor: &mut Compactor,
     due: &[StackCover],
-    shards: u32,
     gate: &G,
 ) -> Result<Vec<StackCover>, AllocError>
-    requires shards { 1 ≤ shards }
     requires compactor { MayCompact catalogue.now (2 * length due.now + 1) compactor.old }
     requires stacks { AllByRecursion (IsStackOf (settings_of catalogue.now).schema) due.now }
     ensures { HasCompacted catalogue.now (2 * length due.now + 1) compactor.old compactor.new }
@@ -119,7 +95,7 @@ fn tidy_stacks<R: Threads + Wait + Sync, G: Gate>(
         return Ok(missed);
     }
     let ids = ids_of(alloc, due)?;
-    match catalogue.compact_stacks(rt, compactor, &ids, shards) {
+    match catalogue.compact_stacks(rt, compactor, &ids, 1) {
         Ok(pinned) => {
             let version = pinned.version();
             layered_in(rt, alloc, version, due, gate)

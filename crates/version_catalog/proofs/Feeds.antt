@@ -24,6 +24,7 @@ use Rattle.version_catalog.specs.declared.feeder.Feeder.{Feeder}
 use Rattle.version_catalog.specs.declared.state.CatalogueState.{CatalogueState}
 use Rattle.version_catalog.proofs.Folds.{after_commands-snoc, accepts_commands-snoc, fold_of-snoc}
 use Rattle.version_catalog.proofs.Histories.{batches-snoc, history-snoc, stands_after, stands_for}
+use Rattle.version_catalog.proofs.Told.{told_published}
 
 -- ---- a publish
 
@@ -55,15 +56,15 @@ module _ (catalogue : Catalogue) (feeder : Feeder) (is : IsFeederOf catalogue fe
     journal_there : batches entered ≡ feeder_journal feeder
     journal_there = ap batches same
 
-    pub value_after : (state new : CatalogueState) (kept : List Command) (layers : List ShardChanges) → StandsFor state entered → GainsBatch state (feeder_batch feeder) layers new
+    pub value_after : (state new : CatalogueState) (kept : List Command) (layers : List ShardChanges) → StandsFor state entered → HasPublished layers state new → GainsBatch state (feeder_batch feeder) layers new
         → LayersFit (settings_of catalogue).schema (feeder_journal feeder) (feeder_batch feeder) layers → kept ≡ feeder_batch feeder → StandsFor new (entered ++ Published kept ∷ [])
-    value_after state new kept layers value gains fit keeps =
+    value_after state new kept layers value published gains fit keeps =
         let settings = settings_of catalogue in let batch = feeder_batch feeder in
         let stands = stands_after state settings entered entered history_there (prefix_self entered) value in
         let grown : StateStands new settings (batches entered ++ batch ∷ []) =
         gains settings (batches entered) stands.1 (subst (λ js. Accepts settings js batch) (sym journal_there) accepts_batch) (subst (λ js. LayersFit settings.schema js batch layers) (sym journal_there) fit) in
         stands_for new settings (entered ++ Published kept ∷ []) (history-snoc settings entered kept history_there)
-        (subst (λ js. StateStands new settings js) (sym (batches-snoc entered kept ∙ ap (λ b. batches entered ++ b ∷ []) keeps)) grown)
+        (subst (λ js. StateStands new settings js) (sym (batches-snoc entered kept ∙ ap (λ b. batches entered ++ b ∷ []) keeps)) grown) (told_published layers state new settings published stands.2)
 
     pub seen_after : (seen : List Entry) (kept : List Command) → seen ≡ entered ++ Published kept ∷ [] → kept ≡ feeder_batch feeder
         → IsHistory (settings_of catalogue) seen × (batches seen ≡ feeder_journal feeder ++ feeder_batch feeder ∷ [])

@@ -7,7 +7,7 @@ use Rattle.uni_table.specs.declared.command.Command.{Command}
 use Rattle.turn_lock.specs.Steps.{longer}
 use Rattle.version_catalog.specs.Journals.{batches, IsHistory}
 use Rattle.version_catalog.specs.Settings.{SettingsState}
-use Rattle.version_catalog.specs.States.{StateStands, StandsFor}
+use Rattle.version_catalog.specs.States.{StateStands, IsTold, StandsFor}
 use Rattle.version_catalog.specs.declared.entry.Entry.{Entry}
 use Rattle.version_catalog.specs.declared.entry.Entry.TheVariants.{Opening, Published}
 use Rattle.version_catalog.specs.declared.state.CatalogueState.{CatalogueState}
@@ -56,17 +56,17 @@ history_longer settings xs ys is as_well = one_of settings xs ys (nat_lt (length
 
 -- a history that began earlier is one of the same settings
 pub stands_after : (state : CatalogueState) (settings : SettingsState) (before after : List Entry) → IsHistory settings before → IsPrefix before after → StandsFor state after
-    → IsHistory settings after × StateStands state settings (batches after)
+    → IsHistory settings after × StateStands state settings (batches after) × IsTold state settings
 stands_after state settings before [] is p stands = absurd (cc (is, p.1))
 stands_after state settings before (Opening other ∷ rest) is p stands =
     let first : Opening settings ∷ (map Published (batches before) ++ p.0) ≡ Opening other ∷ rest = ap (λ es. es ++ p.0) (sym is) ∙ p.1 in
     let same : settings ≡ other = cc (first) in
-    (rw same stands.0, rw same stands.1)
+    (rw same stands.0, rw same stands.1, rw same stands.2)
 stands_after state settings before (Published batch ∷ rest) is p stands = absurd stands
 
-pub stands_for : (state : CatalogueState) (settings : SettingsState) (entries : List Entry) → IsHistory settings entries → StateStands state settings (batches entries) → StandsFor state entries
-stands_for state settings [] is stands = tt
-stands_for state settings (Opening other ∷ rest) is stands =
+pub stands_for : (state : CatalogueState) (settings : SettingsState) (entries : List Entry) → IsHistory settings entries → StateStands state settings (batches entries) → IsTold state settings → StandsFor state entries
+stands_for state settings [] is stands told = tt
+stands_for state settings (Opening other ∷ rest) is stands told =
     let same : settings ≡ other = cc (is) in
-    (subst (λ s. IsHistory s (Opening other ∷ rest)) same is, subst (λ s. StateStands state s (batches rest)) same stands)
-stands_for state settings (Published batch ∷ rest) is stands = absurd (cc (is))
+    (subst (λ s. IsHistory s (Opening other ∷ rest)) same is, subst (λ s. StateStands state s (batches rest)) same stands, subst (λ s. IsTold state s) same told)
+stands_for state settings (Published batch ∷ rest) is stands told = absurd (cc (is))

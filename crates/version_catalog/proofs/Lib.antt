@@ -9,5 +9,6 @@ pub mod Growth
 pub mod Installs
 pub mod Openings
 pub mod SoleLayers
-pub mod Tying
+pub mod Told
+mod Tying
 pub mod Wholes

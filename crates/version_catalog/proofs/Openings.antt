@@ -21,6 +21,11 @@ same_all zero i x d below = absurd (omega (arith, below))
 same_all (suc n) zero x d below = refl
 same_all (suc n) (suc i) x d below = same_all n i x d (omega (arith, below))
 
+pub zeroes_at : (n i : ℕ) → get_or {A = ℕ} (replicate n 0) i 0 ≡ 0
+zeroes_at zero i = refl
+zeroes_at (suc n) zero = refl
+zeroes_at (suc n) (suc i) = zeroes_at n i
+
 module _ (schema : Declarations) (place : StackPlace) where
   rows_there : (k : ℕ) → 0 + k ≤ length {A = List Command} [] → stack_rows (take (k + 1) (empty_layer ∷ [])) ≡ rows_at schema (table_at schema [] (0 + k)) place
   rows_there zero within = layer_over-empty no_rows ∙ sym (shard_rows-none schema place.vertical place.shard)

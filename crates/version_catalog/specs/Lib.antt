@@ -1,6 +1,7 @@
 pub mod Bases
 pub mod Core
 pub mod Examples
+pub mod Installs
 pub mod Journals
 pub mod Refused
 pub mod Seats

@@ -9,6 +9,7 @@ use Rattle.turn_lock.specs.Places.{lock_id}
 use Rattle.turn_lock.specs.Seats.{IsSeatOf, IsWriterOf, IsNoteOf, seat_seen, writer_seen, note_seen, seat_turns, writer_turns, writer_made, IsSameSeat, IsSameWriter}
 use Rattle.turn_lock.specs.declared.seats.Note.{Note}
 use Rattle.turn_lock.specs.declared.seats.Seat.{Seat}
+use Rattle.twin_list.specs.Halves.{IsHalfOf, half_list}
 use Rattle.shard_index.specs.Versions.{VersionState, Stands}
 use Rattle.version_catalog.specs.Journals.{batches, IsHistory}
 use Rattle.version_catalog.specs.Settings.{SettingsState}
@@ -16,6 +17,7 @@ use Rattle.version_catalog.specs.declared.catalogue.Catalogue.{Catalogue}
 use Rattle.version_catalog.specs.declared.compactor.Compactor.{Compactor}
 use Rattle.version_catalog.specs.declared.entry.Entry.{Entry}
 use Rattle.version_catalog.specs.declared.feeder.Feeder.{Feeder}
+use Rattle.version_catalog.specs.declared.install.Install.{Install}
 use Rattle.version_catalog.specs.declared.state.CatalogueState.{CatalogueState}
 
 -- the schema and the limits that it was opened with
@@ -105,15 +107,20 @@ module _ {g : _} where
 abbrev pub compactor_journal : Compactor → List (List Command)
 compactor_journal compactor = batches (seat_seen compactor.seat)
 
+-- the installs that it made
+abbrev pub compactor_installs : Compactor → List Install
+compactor_installs compactor = half_list compactor.half
+
 abbrev pub compactor_turns : Compactor → ℕ
 compactor_turns compactor = seat_turns compactor.seat
 
 pub record IsCompactorOf (catalogue : Catalogue) (compactor : Compactor) : Type 0 where
   pub lock : IsSeatOf catalogue.lock compactor.seat
+  pub half : IsHalfOf catalogue.installs compactor.half
   pub history : IsHistory catalogue.settings (seat_seen compactor.seat)
 
 abbrev pub IsSameCompactor : Compactor → Compactor → Type 0
-IsSameCompactor old new = IsSameSeat old.seat new.seat × (compactor_turns new ≡ compactor_turns old)
+IsSameCompactor old new = IsSameSeat old.seat new.seat × (compactor_turns new ≡ compactor_turns old) × (new.half ≡ old.half)
 
 -- ---- any of them
 

@@ -11,7 +11,7 @@ use Rattle.shard_index.specs.Shards.{shard_rows}
 use Rattle.version_catalog.specs.Settings.{SettingsState}
 use Rattle.version_catalog.specs.Spread.{spread, with_layers}
 use Rattle.version_catalog.specs.Stacks.{table_at}
-use Rattle.version_catalog.specs.States.{version_in, limits_in, covered_in, StateStands}
+use Rattle.version_catalog.specs.States.{version_in, limits_in, covered_in, half_in, StateStands}
 use Rattle.version_catalog.specs.declared.state.CatalogueState.{CatalogueState}
 
 -- ---- a publish
@@ -42,6 +42,7 @@ pub record HasPublished (layers : List ShardChanges) (old new : CatalogueState) 
   pub publishes : (version_in new).publishes ≡ (version_in old).publishes + 1
   pub limits : limits_in new ≡ limits_in old
   pub covered : covered_in new ≡ covered_in old
+  pub half : half_in new ≡ half_in old
   pub stacks : (version_in new).stacks ≡ with_layers (version_in old).stacks (spread (version_in old).schema layers)
 
 -- ---- an install
@@ -72,6 +73,7 @@ pub record HasInstalled (v s r covers : ℕ) (layer : ShardChanges) (old new : C
   pub schema : (version_in new).schema ≡ (version_in old).schema
   pub publishes : (version_in new).publishes ≡ (version_in old).publishes
   pub limits : limits_in new ≡ limits_in old
+  pub half : half_in new ≡ half_in old
   pub covered : get_or (covered_in old) (stack_in old v s r) 0 ≤ covers → covered_in new ≡ set (covered_in old) (stack_in old v s r) covers
   pub stacks : get_or (covered_in old) (stack_in old v s r) 0 ≤ covers
       → (version_in new).stacks ≡ set (version_in old).stacks (stack_in old v s r) (layer ∷ drop (1 + (covers - get_or (covered_in old) (stack_in old v s r) 0)) (get_or (version_in old).stacks (stack_in old v s r) []))

@@ -1,8 +1,12 @@
 //! A catalogue is opened, and sessions are made.
-use crate::{Batch, CatalogueState, Compactor, Entry, Feeder, Session, Settings};
+ghost use Rattle.std.specs.Prelude.{◌≡◌};
+ghost use Rattle.twin_list.specs.Halves.{list_id};
+
+use crate::{Batch, CatalogueState, Compactor, Entry, Feeder, Install, Session, Settings};
 use std::alloc::{AllocError, Global};
 use std::sync::{Arc, Wait};
 use turn_lock::TurnLock;
+use twin_list::TwinList;
 use uni_base::Limits;
 use uni_schema::Schema;
 use uni_table::Table;
@@ -13,6 +17,8 @@ pub struct Catalogue {
     pub(crate) alloc: Global,
     pub(crate) lock: TurnLock<CatalogueState>,
     pub(crate) settings: Settings,
+    pub(crate) installs: TwinList<Install>,
+    ghost told: { settings.installs ≡ list_id installs },
 }
 
 impl Catalogue {
@@ -20,7 +26,7 @@ impl Catalogue {
     ghost use Rattle.std.specs.Arc.{arc_value};
     ghost use Rattle.uni_table.specs.Contents.{empty};
     ghost use Rattle.turn_lock.specs.Seats.{SeatRests, seat_turns};
-    ghost use Rattle.version_catalog.specs.Seats.{settings_of, feeder_table, feeder_batch, feeder_journal, feeder_turns, feeder_sessions, IsFeederOf, session_journal, IsSessionOf, compactor_journal, compactor_turns, IsCompactorOf};
+    ghost use Rattle.version_catalog.specs.Seats.{settings_of, feeder_table, feeder_batch, feeder_journal, feeder_turns, feeder_sessions, IsFeederOf, session_journal, IsSessionOf, compactor_journal, compactor_installs, compactor_turns, IsCompactorOf};
 
     /// A catalogue without publishes, with its feeder and its compactor. It takes one turn of the feeder.
     pub fn new<R: Wait>(
@@ -29,25 +35,28 @@ impl Catalogue {
         schema: Arc<Schema>,
         limits: Limits,
     ) -> Result<(Catalogue, Feeder, Compactor), AllocError>
-        ensures settings { IfOk result (λ t. settings_of t.0 ≡ record { schema = arc_value schema; limits = limits }) }
+        ensures settings { IfOk result (λ t. ((settings_of t.0).schema ≡ arc_value schema) × ((settings_of t.0).limits ≡ limits)) }
         ensures feeder { IfOk result (λ t. IsFeederOf t.0 t.1) }
         ensures compactor { IfOk result (λ t. IsCompactorOf t.0 t.2) }
         ensures journals { IfOk result (λ t. (feeder_journal t.1 ≡ []) × (compactor_journal t.2 ≡ [])) }
+        ensures installs { IfOk result (λ t. compactor_installs t.2 ≡ []) }
         ensures table { IfOk result (λ t. feeder_table t.1 ≡ record { schema = arc_value schema; limits = limits; contents = empty; published = empty }) }
         ensures batch { IfOk result (λ t. feeder_batch t.1 ≡ []) }
         ensures counts { IfOk result (λ t. (feeder_turns t.1 ≡ 1) × (feeder_sessions t.1 ≡ 0) × (compactor_turns t.2 ≡ 0)) }
     {
-        let settings = Settings::new(schema, limits);
-        let entry = Entry::Opening(settings.share()?);
+        let (installs, mine, other) = TwinList::new(alloc)?;
+        let entry = Entry::Opening(Settings::new(schema.clone()?, limits, &installs));
+        let settings = Settings::new(schema, limits, &installs);
         let table = Table::new(alloc, settings.schema().clone()?, limits);
-        let opening = CatalogueState::opening(alloc, &settings)?;
-        let unopened = CatalogueState::opening(alloc, &settings)?;
+        let opening = CatalogueState::opening(alloc, &settings, Some(other))?;
+        let unopened = CatalogueState::opening(alloc, &settings, None)?;
         let (lock, mut seat) = TurnLock::new(alloc, unopened)?;
         let mut turn = lock.enter_writer(rt, &mut seat);
         turn.value = opening;
         lock.leave_with_entry(&mut seat, turn, &entry);
         let compactor = Compactor {
             seat: lock.seat(&mut seat),
+            half: mine,
         };
         let feeder = Feeder {
             seat,
@@ -59,6 +68,7 @@ impl Catalogue {
             alloc,
             lock,
             settings,
+            installs,
         };
         Ok((catalogue, feeder, compactor))
     }

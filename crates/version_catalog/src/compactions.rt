@@ -1,11 +1,12 @@
 //! The compactor puts one layer in place of those of several stacks.
-ghost use Rattle.std.specs.Prelude.{◌+◌, ◌-◌, ◌*◌, ◌^◌, ◌<◌, ◌≤◌, ℕ, List, length, IfOk, IfSome};
+ghost use Rattle.std.specs.Prelude.{[], ◌∷◌, ◌+◌, ◌-◌, ◌*◌, ◌^◌, ◌<◌, ◌≤◌, ℕ, List, length, IfOk, IfSome};
 ghost use Rattle.std.specs.List.{All};
 ghost use mathlib.Core.List.{IsPrefix};
 ghost use Rattle.uni_schema.specs.Schema.{Declarations};
 ghost use Rattle.uni_table.specs.declared.command.Command.{Command};
 ghost use Rattle.version_catalog.specs.Bases.{IsBaseAfter, IsStackId, StandsAfter};
-ghost use Rattle.version_catalog.specs.Seats.{settings_of, compactor_journal, compactor_turns, IsCompactorOf, IsVersionOf};
+ghost use Rattle.version_catalog.specs.Installs.{IsLayered, Raises};
+ghost use Rattle.version_catalog.specs.Seats.{settings_of, compactor_journal, compactor_installs, compactor_turns, IsCompactorOf, IsVersionOf};
 
 use crate::bases::{ShardBase, is_same_shard, shard_bases};
 use crate::{Catalogue, Compactor, Pinned, StackId};
@@ -34,7 +35,9 @@ impl Catalogue {
         ensures of { IsCompactorOf self.now compactor.new }
         ensures turns { compactor_turns compactor.new ≤ compactor_turns compactor.old + 2 * length stacks.now + 1 }
         ensures later { IsPrefix (compactor_journal compactor.old) (compactor_journal compactor.new) }
+        ensures raises { Raises stacks.now (length (compactor_journal compactor.old)) (compactor_installs compactor.old) (compactor_installs compactor.new) }
         ensures is { IfOk result (IsVersionOf (settings_of self.now) (compactor_journal compactor.new)) }
+        ensures layers { IfOk result (IsLayered (settings_of self.now).schema (compactor_installs compactor.new) (length (compactor_journal compactor.new))) }
     {
         let mut from = 0;
         while from < stacks.len() {
@@ -42,7 +45,7 @@ impl Catalogue {
             let _found = self.compact_group(rt, compactor, stacks, from, to, workers);
             from = to;
         }
-        self.pin(rt, &mut compactor.seat)
+        self.pin_told(rt, compactor)
     }
 
     // Compacts a group of stacks at one pin. Those that find no memory stay as they were.
@@ -63,6 +66,7 @@ impl Catalogue {
         ensures of { IsCompactorOf self.now compactor.new }
         ensures turns { compactor_turns compactor.new ≤ compactor_turns compactor.old + 1 + (to - from) }
         ensures later { IsPrefix (compactor_journal compactor.old) (compactor_journal compactor.new) }
+        ensures raises { Raises stacks.now (length (compactor_journal compactor.old)) (compactor_installs compactor.old) (compactor_installs compactor.new) }
     {
         let pinned = self.pin(rt, &mut compactor.seat)?;
         let version = pinned.version();
@@ -90,6 +94,7 @@ impl Catalogue {
         ensures of { IsCompactorOf self.now compactor.new }
         ensures turns { compactor_turns compactor.new ≤ compactor_turns compactor.old + 1 }
         ensures later { IsPrefix (compactor_journal compactor.old) (compactor_journal compactor.new) }
+        ensures raises { Raises (stack ∷ []) covers (compactor_installs compactor.old) (compactor_installs compactor.new) }
     {
         let layer = layer_for(&stack, bases)?.share().ok()?;
         let StackId {

@@ -1,11 +1,13 @@
 ghost use Rattle.turn_lock.specs.Seats.{SeatRests};
 
-use crate::Session;
+use crate::{Install, Session};
+use twin_list::Half;
 
-/// The seat of a catalogue that compacts.
+/// The seat of a catalogue that compacts. It knows all installs, by a half of their list.
 #[derive(Drop)]
 pub struct Compactor {
     pub(crate) seat: Session,
+    pub(crate) half: Half<Install>,
     ghost rests: { SeatRests seat },
 }
 

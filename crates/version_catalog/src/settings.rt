@@ -1,33 +1,42 @@
-ghost use Rattle.std.specs.Prelude.{◌≡◌, IfOk};
+ghost use Rattle.std.specs.Prelude.{◌≡◌};
 ghost use Rattle.std.specs.Arc.{arc_value};
+ghost use Rattle.twin_list.specs.Halves.{list_id};
 
-use std::alloc::AllocError;
+use crate::Install;
 use std::marker::Model;
+use std::snapshot::Snapshot;
 use std::sync::Arc;
+use twin_list::TwinList;
 use uni_base::Limits;
 use uni_schema::Schema;
 
-/// What a catalogue is opened with.
+/// What a catalogue is opened with: a schema, limits, and a list of installs, of which it only says which one it is.
 #[derive(Drop)]
 pub struct Settings {
     schema: Arc<Schema>,
     limits: Limits,
+    installs: Snapshot<TwinList<Install>>,
 }
 
 impl Model for Settings {
     ghost use Rattle.std.specs.Arc.{arc_value};
+    ghost use Rattle.twin_list.specs.Halves.{list_id};
     ghost use Rattle.version_catalog.specs.Settings.{SettingsState};
 
     ghost Value = { SettingsState };
 
-    ghost view = { λ s. record { schema = arc_value s.schema; limits = s.limits } };
+    ghost view = { λ s. record { schema = arc_value s.schema; limits = s.limits; installs = list_id s.installs.value } };
 }
 
 impl Settings {
-    pub fn new(schema: Arc<Schema>, limits: Limits) -> Settings
-        ensures { result ≡ record { schema = arc_value schema; limits = limits } }
+    pub fn new(schema: Arc<Schema>, limits: Limits, installs: &TwinList<Install>) -> Settings
+        ensures { result ≡ record { schema = arc_value schema; limits = limits; installs = list_id installs.now } }
     {
-        Settings { schema, limits }
+        Settings {
+            schema,
+            limits,
+            installs: Snapshot::of(installs),
+        }
     }
 
     pub fn schema(&self) -> &Arc<Schema>
@@ -40,15 +49,5 @@ impl Settings {
         ensures { result.now ≡ self.now.limits }
     {
         &self.limits
-    }
-
-    /// Equal settings over the same schema.
-    pub fn share(&self) -> Result<Settings, AllocError>
-        ensures { IfOk result (λ settings. settings ≡ self.now) }
-    {
-        Ok(Settings {
-            schema: self.schema.clone()?,
-            limits: self.limits,
-        })
     }
 }

@@ -10,7 +10,7 @@ use Rattle.version_catalog.proofs.catalogue.Catalogue.publish_layers.Goals as go
 pub leave_with_entry-requires-clause-value : goal.leave_with_entry-requires-clause-value
 leave_with_entry-requires-clause-value g c =
     value_after c.args.self.now c.args.feeder.now c.requires.of (writer_seen c.enter_writer-turn.new.writer) c.enter_writer-turn.ensures.same c.enter_writer-turn.result.value c.publish_turn.new.state
-    c.replace-batch.result c.args.layers.now.layers.items c.enter_writer-turn.ensures.value (c.in-Ok.ensures {u = tt}).gains c.requires.fit c.replace-batch.ensures.value
+    c.replace-batch.result c.args.layers.now.layers.items c.enter_writer-turn.ensures.value (c.in-Ok.ensures {u = tt}).published (c.in-Ok.ensures {u = tt}).gains c.requires.fit c.replace-batch.ensures.value
 
 pub invariant_of-feeder-clause-counted : goal.invariant_of-feeder-clause-counted
 invariant_of-feeder-clause-counted g c =
