@@ -1,7 +1,7 @@
-ghost use Rattle.std.specs.Prelude.{◌*◌, IfOk, length, option_to_list};
+ghost use Rattle.std.specs.Prelude.{◌≡◌, ◌++◌, ◌*◌, IfOk, length, option_to_list};
 ghost use Rattle.script_rounds.specs.Fits.{ItemFits, ItemsFit};
-ghost use Rattle.version_catalog.specs.Seats.{compactor_journal};
-ghost use Rattle.round_feed.specs.Compacted.{AreCompacted, compact_entries, compact_entry};
+ghost use Rattle.version_catalog.specs.Seats.{compactor_installs, compactor_journal};
+ghost use Rattle.round_feed.specs.Compacted.{AreCompacted, compact_entries, compact_entry, installs_by};
 ghost use Rattle.round_feed.specs.Seats.{HasCompacted, MayCompact, terms_of};
 
 use crate::answers::add_answer;
@@ -26,6 +26,7 @@ pub fn compact_round<R: Wait, G: Gate>(
     requires fit { ItemsFit (terms_of catalogue.now) items.now }
     ensures taken { HasCompacted catalogue.now (2 * length items.now) compactor.old compactor.new }
     ensures compacted { IfOk result (AreCompacted (length (compactor_journal compactor.old)) (length (compactor_journal compactor.new)) (compact_entries items.now)) }
+    ensures installed { IfOk result (λ answers. compactor_installs compactor.new ≡ compactor_installs compactor.old ++ installs_by (compact_entries items.now) answers) }
 {
     let mut answers = AnswerList::new(alloc);
     for item in items.as_slice() {
@@ -47,6 +48,7 @@ fn compact_line<R: Wait, G: Gate>(
     requires fits { ItemFits (terms_of catalogue.now) item.now }
     ensures taken { HasCompacted catalogue.now 2 compactor.old compactor.new }
     ensures compacted { AreCompacted (length (compactor_journal compactor.old)) (length (compactor_journal compactor.new)) (option_to_list (compact_entry item.now)) (option_to_list result) }
+    ensures installed { compactor_installs compactor.new ≡ compactor_installs compactor.old ++ installs_by (option_to_list (compact_entry item.now)) (option_to_list result) }
 {
     let Item::Compact(line, vertical, shard, replica) = item else {
         return None;

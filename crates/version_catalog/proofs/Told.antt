@@ -24,11 +24,11 @@ use Rattle.version_catalog.proofs.Installs.{is_below}
 -- ---- how many publishes installs cover
 
 -- one install more
-abbrev raised : Bool → ℕ → ℕ → ℕ
+abbrev pub raised : Bool → ℕ → ℕ → ℕ
 raised true n covers = max n covers
 raised false n covers = n
 
-covers-more : (xs : List Install) (x : Install) (v s r : ℕ) → covers_of (xs ++ x ∷ []) v s r ≡ raised (is_in v s r x) (covers_of xs v s r) x.covers
+pub covers-more : (xs : List Install) (x : Install) (v s r : ℕ) → covers_of (xs ++ x ∷ []) v s r ≡ raised (is_in v s r x) (covers_of xs v s r) x.covers
 covers-more [] x v s r = first (is_in v s r x)
   where
     first : (b : Bool) → (if b then max x.covers 0 else 0) ≡ raised b 0 x.covers
@@ -233,7 +233,7 @@ pub layered : (state : CatalogueState) (settings : SettingsState) (journal : Lis
 layered state settings journal st told v s r stack =
     let no = stack_no settings.schema v s r in
     let stands = st.stacks no (stack_place v s r) (stack_is_at settings.schema v s r stack) in
-    omega (arith, stands.count, told.covered v s r stack)
+    (omega (arith, stands.within, told.covered v s r stack), omega (arith, stands.count, told.covered v s r stack))
 
 pub layered_as : (schema : Declarations) (xs ys : List Install) (m n : ℕ) (version other : VersionState) → xs ≡ ys → m ≡ n → version ≡ other → IsLayered schema xs m version → IsLayered schema ys n other
 layered_as schema xs ys m n version other same_list same_number same_version is = subst (IsLayered schema ys n) same_version (subst (λ k. IsLayered schema ys k version) same_number (subst (λ l. IsLayered schema l m version) same_list is))

@@ -33,7 +33,7 @@ abbrev pub Raises : List StackId → ℕ → List Install → List Install → T
 Raises stacks least old new =
     (v s r : ℕ) → (covers_of new v s r ≡ covers_of old v s r) ⊎ ((has_stack v s r stacks ≡ true) × (least ≤ covers_of new v s r))
 
--- each stack of a version has a layer for what its oldest one covers after some installs, and one more for each later publish
+-- each stack of a version covers no more publishes than were made, by some installs, and has a layer for what its oldest one covers and one more for each later publish
 abbrev pub IsLayered : Declarations → List Install → ℕ → VersionState → Type 0
 IsLayered schema installs publishes version =
-    (v s r : ℕ) → IsStack schema v s r → length (get_or version.stacks (stack_no schema v s r) []) + covers_of installs v s r ≡ 1 + publishes
+    (v s r : ℕ) → IsStack schema v s r → (covers_of installs v s r ≤ publishes) × (length (get_or version.stacks (stack_no schema v s r) []) + covers_of installs v s r ≡ 1 + publishes)

@@ -140,12 +140,9 @@ impl Catalogue {
         Ok(())
     }
 
-    // The newest version. The list of installs tells how many layers each of its stacks has.
-    pub(crate) fn pin_told<R: Wait>(
-        &self,
-        rt: &R,
-        compactor: &mut Compactor,
-    ) -> Result<Pinned, AllocError>
+    /// The newest version, as the compactor pins it: the list of its installs tells how many layers each stack has
+    /// there. It costs a turn and a shared pointer.
+    pub fn pin_told<R: Wait>(&self, rt: &R, compactor: &mut Compactor) -> Result<Pinned, AllocError>
         requires of { IsCompactorOf self.now compactor.old }
         requires few { compactor_turns compactor.old < 2 ^ 56 }
         ensures of { IsCompactorOf self.now compactor.new }
