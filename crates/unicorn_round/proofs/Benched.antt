@@ -13,6 +13,7 @@ use Rattle.unicorn_round.specs.Bench.{CounterStands, counter_terms, is_lacking}
 use Rattle.unicorn_round.specs.Counts.{CountsAgree, counts_of, counts_of_script, script_counts}
 use Rattle.unicorn_round.specs.Reads.{ScriptAnswered}
 use Rattle.unicorn_round.specs.ServedLaws.{served_legal}
+use Rattle.unicorn_round.specs.Service.{service_stacks}
 use Rattle.unicorn_round.specs.declared.counter.Counter.{Counter}
 use Rattle.unicorn_round.proofs.Counted.{rounds_have}
 use Rattle.unicorn_round.proofs.Reading.{no_rounds_ahead}
@@ -27,7 +28,7 @@ all_given script bytes left gave none =
 counts_are : CountsAgree → (counter : Counter) (rounds : List (List Entry)) (text : List ℕ) → CounterStands counter rounds text → counter.counts ≡ script_counts (counter_terms counter) rounds
 counts_are agree counter rounds text s =
     let terms = counter_terms counter in
-    let legal = served_legal terms rounds (feed_of counter.service.feeder) counter.service.stacks s.said s.served in
+    let legal = served_legal terms rounds (feed_of counter.service.feeder) (service_stacks counter.service) s.said s.served in
     let has = rounds_have terms (opening_standing terms) rounds s.served.told s.served.is_record (ap (λ said. list_any is_lacking said) (sym s.served.says) ∙ s.whole) in
     s.counted ∙ ap counts_of s.served.says ∙ agree.same terms rounds s.served.told s.served.is_record legal has s.apart
 

@@ -40,6 +40,7 @@ mod ServedSteps
 mod StackLists
 mod Texts
 mod TextsTell
+mod Told
 mod Weaving
 mod Wholes
 mod Words

@@ -15,7 +15,7 @@ use Rattle.script_rounds.specs.Fits.{ItemsFit}
 use Rattle.script_rounds.specs.Terms.{Terms, under}
 use Rattle.script_rounds.specs.declared.item.Item.{Item}
 use Rattle.turn_lock.specs.declared.seats.Seat.{Seat}
-use Rattle.version_catalog.specs.Seats.{IsCompactorOf, IsFeederOf, compactor_turns, feeder_batch, feeder_journal, feeder_table, feeder_turns, settings_of}
+use Rattle.version_catalog.specs.Seats.{IsCompactorOf, IsFeederOf, compactor_installs, compactor_turns, feeder_batch, feeder_journal, feeder_table, feeder_turns, settings_of}
 use Rattle.version_catalog.specs.declared.catalogue.Catalogue.{Catalogue}
 use Rattle.version_catalog.specs.declared.compactor.Compactor.{Compactor}
 use Rattle.version_catalog.specs.declared.entry.Entry.{Entry as Recorded}
@@ -30,9 +30,10 @@ use Rattle.round_feed.specs.Seats.{HasCompacted, MayCompact, feed_of, terms_of}
 use Rattle.round_feed.specs.Steps.{after}
 use Rattle.unicorn_round.specs.Answerer.{IsOpened}
 use Rattle.unicorn_round.specs.Parted.{IsParted}
-use Rattle.unicorn_round.specs.SchemaStacks.{AreStacks}
 use Rattle.unicorn_round.specs.Served.{IsServed}
-use Rattle.unicorn_round.specs.Service.{AreNew, IsIdle, IsReady, ServiceStands, service_terms}
+use Rattle.unicorn_round.specs.Told.{AreWithin, stacks_told}
+use Rattle.unicorn_round.proofs.Told.{none_told}
+use Rattle.unicorn_round.specs.Service.{AreNew, IsIdle, IsReady, ServiceStands, service_stacks, service_terms}
 use Rattle.unicorn_round.specs.Stacks.{opening_stacks}
 use Rattle.unicorn_round.specs.Work.{MayAsk, MayTakeCompactions, MayTakeFeed}
 use Rattle.unicorn_round.specs.declared.parts.Parts.{Parts}
@@ -88,7 +89,7 @@ module _ (catalogue : Catalogue) (items : List Item) (parts : Parts) (n : ℕ) w
 
   -- and the stacks that are due at the round's end
   pub may_tidy : (old new : Compactor) → compactor_turns old ≤ 8195 * n → n + length items + 1 ≤ 2 ^ 37 → IsParted (terms_of catalogue).limits.sessions items parts → HasCompacted catalogue (2 * length parts.compactions) old new
-      → MayCompact catalogue 8193 new
+      → MayCompact catalogue 8194 new
   may_tidy old new turns few parted has = record { of = has.of; few = omega (arith, turns, has.few, few, ap (length {A = Item}) parted.compactions, few_compactions items) }
 
   each_few : IsParted (terms_of catalogue).limits.sessions items parts → AllByRecursion (λ asks. length asks ≤ length items) parts.asks.items
@@ -124,10 +125,11 @@ module _ (catalogue : Catalogue) (items : List Item) (parts : Parts) (n : ℕ) w
 pub opened : (service : Service) (limits : Limits) (schema : Declarations) → ((settings_of service.catalogue).schema ≡ schema) × ((settings_of service.catalogue).limits ≡ limits) → IsWithinStandard limits
     → IsFeederOf service.catalogue service.feeder → feeder_journal service.feeder ≡ [] → feeder_batch service.feeder ≡ [] → (feeder_table service.feeder).contents ≡ empty → feeder_turns service.feeder ≡ 1
     → IsCompactorOf service.catalogue service.compactor → compactor_turns service.compactor ≡ 0 → AreNew service.catalogue limits.sessions service.sessions.items
-    → service.stacks ≡ opening_stacks schema → AreStacks schema service.stacks
+    → compactor_installs service.compactor ≡ []
     → IsOpened service_terms IsReady ServiceStands (under limits schema) service
-opened service limits schema settings standard feeder journal batch table turns compactor none sessions opening are =
+opened service limits schema settings standard feeder journal batch table turns compactor none sessions new =
     let terms : terms_of service.catalogue ≡ under limits schema = (λ i. under (settings.1 i) (settings.0 i)) in
+    let opening : service_stacks service ≡ opening_stacks schema = (λ i. stacks_told (settings.0 i) (new i)) ∙ none_told schema in
     let feed : feed_of service.feeder ≡ opening_feed = (λ i. record { journal = journal i; batch = batch i; table = table i }) in
     record {
       is_under = terms;
@@ -140,12 +142,12 @@ opened service limits schema settings standard feeder journal batch table turns 
         compacted = omega (arith, none);
         sessions = sessions.each;
         count = sessions.long ∙ sym (ap (λ (t : Terms). t.limits.sessions) terms);
-        stacks = subst (λ s. AreStacks s service.stacks) (sym settings.0) are;
+        within = subst (AreWithin (length (feeder_journal service.feeder))) (sym new) (λ v s r. omega arith);
       };
       stands = record {
         said = [];
-        served = subst (λ (t : Terms). IsServed t [] (feed_of service.feeder) service.stacks []) (sym terms)
-            (subst (λ f. IsServed (under limits schema) [] f service.stacks []) (sym feed) (subst (λ covers. IsServed (under limits schema) [] opening_feed covers []) (sym opening) (served_nothing (under limits schema))));
+        served = subst (λ (t : Terms). IsServed t [] (feed_of service.feeder) (service_stacks service) []) (sym terms)
+            (subst (λ f. IsServed (under limits schema) [] f (service_stacks service) []) (sym feed) (subst (λ covers. IsServed (under limits schema) [] opening_feed covers []) (sym opening) (served_nothing (under limits schema))));
         writes = refl;
       };
     }

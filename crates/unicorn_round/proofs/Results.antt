@@ -23,5 +23,10 @@ pub if_ok : {T E : Type 0} (P Q : T → Type 0) (r : Result T E) → ((x : T) �
 if_ok P Q (Ok x) goes says = goes x says
 if_ok P Q (Err e) goes says = tt
 
+-- two things that hold of a value
+pub both_ok : {T E : Type 0} (P Q : T → Type 0) (r : Result T E) → IfOk r P → IfOk r Q → IfOk r (λ x. P x × Q x)
+both_ok P Q (Ok x) p q = (p, q)
+both_ok P Q (Err e) p q = tt
+
 pub at_if_ok : {T E : Type 0} (P : T → Type 0) (r : Result T E) (x : T) → r ≡ Ok x → IfOk r P → P x
 at_if_ok P r x is says = subst (λ q. IfOk q P) is says

@@ -17,8 +17,8 @@ use Rattle.round_feed.specs.Feeds.{fed_one, made}
 use Rattle.round_feed.specs.Seats.{feed_of, terms_of}
 use Rattle.round_feed.specs.Steps.{after, given}
 use Rattle.unicorn_round.specs.Answers.{Standing}
-use Rattle.unicorn_round.specs.Ending.{IsEnded}
-use Rattle.unicorn_round.specs.Parted.{IsParted}
+use Rattle.unicorn_round.specs.Ending.{IsEnded, covers_between}
+use Rattle.unicorn_round.specs.Parted.{IsParted, slots_in}
 use Rattle.unicorn_round.specs.Queues.{answers_at, shown_by}
 use Rattle.unicorn_round.specs.Served.{IsServed}
 use Rattle.unicorn_round.specs.Stacks.{due_untidied, tidy, tidy_answers}
@@ -43,11 +43,11 @@ past (x ∷ xs) (suc place) d under = past xs place d (omega (arith, under))
 pub served_round : (catalogue : Catalogue) (parts : Parts) (answers : RoundAnswers) (old new : Feeder) (covers after_covers : List StackCover) (entries : List Entry) (items : List Item) (rounds : List (List Entry)) (before said : List Answer) (from to : ℕ)
     → AreItemsOf entries items → ItemsFit (terms_of catalogue) items → Rise from to (map item_line items)
     → IsParted (terms_of catalogue).limits.sessions items parts → AreAnswered catalogue parts old new answers → length (feeder_journal old) ≤ length (feeder_journal new)
-    → IsEnded (length (feeder_journal new)) covers after_covers parts answers said
+    → IsEnded (length (feeder_journal new)) (covers_between covers parts answers) after_covers parts answers said
     → IsServed (terms_of catalogue) rounds (feed_of old) covers before
     → IsServed (terms_of catalogue) (rounds ++ entries ∷ []) (feed_of new) after_covers (before ++ said)
 served_round catalogue parts answers old new covers after_covers entries items rounds before said from to of fit rise parted answered longer ended served =
-    served_more terms rounds entries items lacks answers.fed asked answers.compacted (feed_of old) (feed_of new) covers after_covers ended.untidied before said served
+    served_more terms rounds entries items lacks answers.fed asked answers.compacted (feed_of old) (feed_of new) covers after_covers ended.tidied.untidied before said served
     (woven terms s end entries items lacks answers.fed asked answers.compacted (made (feed_of old)) from to of fit rise
     (answered.fed.one_each ∙ ap (λ its. length (feed_entries its)) parted.feed)
     (answered.fed.answered ∙ ap (λ its. given (fed_one terms) (fed_answers terms) (feed_of old) (feed_entries its) lacks) parted.feed)
@@ -55,10 +55,10 @@ served_round catalogue parts answers old new covers after_covers entries items r
     (subst (λ its. AreCompacted (made (feed_of old)) (made (feed_of new)) (compact_entries its) answers.compacted) parted.compactions answered.compacted)
     longer)
     (answered.fed.after ∙ ap (λ its. after (fed_one terms) (feed_of old) (feed_entries its) lacks) parted.feed)
-    (ended.due ∙ ap (λ its. due_untidied (made (feed_of new)) ended.untidied (compacted_covers covers its answers.compacted)) parted.compactions)
-    (ended.covers ∙ ap (λ its. map (tidy (made (feed_of new)) ended.untidied) (compacted_covers covers its answers.compacted)) parted.compactions)
-    (ended.says
-    ∙ (λ i. merged (shown_by (made (feed_of new)) after_covers) (parted.slots i) answers.fed asked answers.compacted ++ tidy_answers (made (feed_of new)) ended.untidied (compacted_covers covers (parted.compactions i) answers.compacted)))
+    (ended.tidied.due ∙ ap (λ its. due_untidied (made (feed_of new)) ended.tidied.untidied (compacted_covers covers its answers.compacted)) parted.compactions)
+    (ended.tidied.covers ∙ ap (λ its. map (tidy (made (feed_of new)) ended.tidied.untidied) (compacted_covers covers its answers.compacted)) parted.compactions)
+    (ended.says ∙ ap (λ told. merged (shown_by (made (feed_of new)) after_covers) (slots_in parts) answers.fed asked answers.compacted ++ told) ended.tidied.answers
+    ∙ (λ i. merged (shown_by (made (feed_of new)) after_covers) (parted.slots i) answers.fed asked answers.compacted ++ tidy_answers (made (feed_of new)) ended.tidied.untidied (compacted_covers covers (parted.compactions i) answers.compacted)))
   where
     terms : Terms
     terms = terms_of catalogue

@@ -1,24 +1,17 @@
 -- Stacks of a schema, as they are compacted and tidied.
-use Rattle.std.proofs.Common.{◌≡◌, ◌≤◌, ◌<◌, ◌+◌, ◌&&◌, ◌||◌, ◌==◌, ℕ, zero, suc, Bool, true, false, not, List, [], ◌∷◌, ◌++◌, length, map, filter, drop, if◌then◌else◌, Some, refl, sym, ap, ◌∙◌, subst, arith, min, length-append, append_assoc, slice_get}
+use Rattle.std.proofs.Common.{◌≡◌, ◌≤◌, ◌<◌, ◌+◌, ◌&&◌, ◌||◌, ◌==◌, ℕ, zero, suc, Bool, true, false, List, [], ◌∷◌, ◌++◌, length, map, filter, if◌then◌else◌, Some, refl, sym, ap, ◌∙◌, subst, arith, length-append, append_assoc, slice_get}
 use Rattle.std.proofs.lemmas.Bool.Decides.{nat_tests}
-use Rattle.std.proofs.lemmas.List.{drop_all, length-map}
 use Rattle.std.proofs.lemmas.List.Elements.{filter-append}
 use Rattle.std.proofs.lemmas.Option.{slice_get_within}
 use Rattle.std.specs.List.{AllByRecursion, list_any, range_with_len}
 use Rattle.std.specs.Option.{option_map_or}
 use Rattle.uni_schema.specs.Schema.{Declarations, IsSchema}
 use Rattle.uni_schema.specs.declared.schema.VerticalDef.{VerticalDef}
-use Rattle.reply_text.specs.declared.answer.Answer.{Answer}
-use Rattle.reply_text.specs.declared.answer.Answer.TheVariants as answer
-use Rattle.script_rounds.specs.declared.item.Item.{Item}
-use Rattle.script_rounds.specs.declared.item.Item.TheVariants.{Compact}
 use Rattle.shard_index.specs.Places.{IsStack}
 use Rattle.unicorn_round.specs.declared.stacks.StackCover.{StackCover}
 use Rattle.unicorn_round.specs.Marks.{StackName}
-use mathlib.Core.Logic.{inl, inr, ◌⊎◌}
 use Rattle.unicorn_round.specs.SchemaStacks.{AreStacks, IsStackOf}
-use Rattle.unicorn_round.specs.Stacks.{bare, stacks_in, stacks_from, opening_stacks, covered, covering, is_stack, is_due, is_untidied, due_untidied, name_of, tidy}
-use Rattle.unicorn_round.specs.Weaving.{compacted_covers, covered_by}
+use Rattle.unicorn_round.specs.Stacks.{bare, stacks_in, stacks_from, opening_stacks, is_stack, is_due, is_untidied, due_untidied, name_of}
 use Rattle.unicorn_round.proofs.Bounded.{from-few}
 use Rattle.unicorn_round.proofs.Elements.{all-append, all-map, all-flat_map, filter_fewer}
 
@@ -60,41 +53,6 @@ module _ (schema : Declarations) where
   opening_are is = record {
     each = from-are [] schema.verticals refl;
     few = omega (arith, from-few (length schema.verticals) 0 schema.verticals is.verticals, is.few_verticals);
-  }
-
-  covered-is : (vertical shard replica number : ℕ) (cover : StackCover) → IsStackOf schema cover → IsStackOf schema (covered vertical shard replica number cover)
-  covered-is vertical shard replica number cover is = by (is_stack vertical shard replica cover)
-    where
-      by : (b : Bool) → IsStackOf schema (if b then record cover { covers = number } else cover)
-      by true = is
-      by false = is
-
-  pub covering_are : (vertical shard replica number : ℕ) (covers : List StackCover) → AreStacks schema covers → AreStacks schema (covering vertical shard replica number covers)
-  covering_are vertical shard replica number covers are = record {
-    each = all-map (IsStackOf schema) (IsStackOf schema) (covered vertical shard replica number) (covered-is vertical shard replica number) covers are.each;
-    few = omega (arith, are.few, length-map covers (covered vertical shard replica number));
-  }
-
-  covered_are : (covers : List StackCover) (item : Item) (told : Answer) → AreStacks schema covers → AreStacks schema (covered_by covers item told)
-  covered_are covers (Compact line vertical shard replica) (answer.Compacted n number) are = covering_are vertical shard replica number covers are
-  covered_are covers item told are = are
-
-  pub compacted_are : (covers : List StackCover) (items : List Item) (answers : List Answer) → AreStacks schema covers → AreStacks schema (compacted_covers covers items answers)
-  compacted_are covers [] answers are = are
-  compacted_are covers (item ∷ items) [] are = are
-  compacted_are covers (item ∷ items) (told ∷ answers) are = compacted_are (covered_by covers item told) items answers (covered_are covers item told are)
-
-  tidy-is : (number : ℕ) (names : List StackName) (cover : StackCover) → IsStackOf schema cover → IsStackOf schema (tidy number names cover)
-  tidy-is number names cover is = by (is_due number cover && not (is_untidied names cover))
-    where
-      by : (b : Bool) → IsStackOf schema (if b then record cover { covers = number } else cover)
-      by true = is
-      by false = is
-
-  pub tidied_are : (number : ℕ) (names : List StackName) (covers : List StackCover) → AreStacks schema covers → AreStacks schema (map (tidy number names) covers)
-  tidied_are number names covers are = record {
-    each = all-map (IsStackOf schema) (IsStackOf schema) (tidy number names) (tidy-is number names) covers are.each;
-    few = omega (arith, are.few, length-map covers (tidy number names));
   }
 
   chosen_each : (p : StackCover → Bool) (covers : List StackCover) → AllByRecursion (IsStackOf schema) covers → AllByRecursion (IsStackOf schema) (filter p covers)
@@ -181,16 +139,3 @@ module _ (number : ℕ) (untidied : List StackName) where
   -- the due stacks among those that are due and among some are the same again
   pub due_again : (covers : List StackCover) → due_untidied number (due_untidied number untidied covers) covers ≡ due_untidied number untidied covers
   due_again covers = ap (map name_of) (again [] covers)
-
--- where one list has ended, nothing more is covered
-pub compacted_nothing : (covers : List StackCover) (items : List Item) (answers : List Answer) (n : ℕ) → (length items ≤ n) ⊎ (length answers ≤ n) → compacted_covers covers (drop n items) (drop n answers) ≡ covers
-compacted_nothing covers items answers n (inl past) = ap (λ its. compacted_covers covers its (drop n answers)) (drop_all n items past)
-compacted_nothing covers items answers n (inr past) = ap (λ ls. compacted_covers covers (drop n items) ls) (drop_all n answers past) ∙ by (drop n items)
-  where
-    by : (its : List Item) → compacted_covers covers its [] ≡ covers
-    by [] = refl
-    by (item ∷ its) = refl
-
--- what is past the shorter of two lengths is past one of them
-pub min_past : (a b n : ℕ) → min a b ≤ n → (a ≤ n) ⊎ (b ≤ n)
-min_past a b n past = grind arith

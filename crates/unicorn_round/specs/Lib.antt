@@ -32,6 +32,7 @@ pub mod Service
 pub mod ServiceLaws
 pub mod Stacks
 pub mod Statuses
+pub mod Told
 pub mod Usage
 pub mod Weaving
 pub mod Work

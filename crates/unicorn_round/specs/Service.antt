@@ -4,7 +4,7 @@ use Rattle.std.specs.List.{AllByRecursion}
 use Rattle.uni_base.specs.StandardLimits.{IsWithinStandard}
 use Rattle.turn_lock.specs.Seats.{seat_turns}
 use Rattle.turn_lock.specs.declared.seats.Seat.{Seat}
-use Rattle.version_catalog.specs.Seats.{IsCompactorOf, IsFeederOf, compactor_turns, feeder_journal, feeder_turns, settings_of}
+use Rattle.version_catalog.specs.Seats.{IsCompactorOf, IsFeederOf, compactor_installs, compactor_turns, feeder_journal, feeder_turns, settings_of}
 use Rattle.version_catalog.specs.declared.catalogue.Catalogue.{Catalogue}
 use Rattle.version_catalog.specs.declared.entry.Entry.{Entry}
 use Rattle.version_catalog.specs.declared.state.CatalogueState.{CatalogueState}
@@ -14,10 +14,11 @@ use Rattle.script_rounds.specs.Entries.{AreItemsOf, Entry as ScriptEntry}
 use Rattle.script_rounds.specs.declared.item.Item.{Item}
 use Rattle.script_rounds.specs.Terms.{Terms}
 use Rattle.round_feed.specs.Seats.{feed_of, terms_of}
-use Rattle.unicorn_round.specs.SchemaStacks.{AreStacks}
 use Rattle.unicorn_round.specs.Seats.{IsResting}
 use Rattle.unicorn_round.specs.Served.{IsServed}
+use Rattle.unicorn_round.specs.Told.{AreWithin, stacks_told}
 use Rattle.unicorn_round.specs.declared.service.Service.{Service}
+use Rattle.unicorn_round.specs.declared.stacks.StackCover.{StackCover}
 
 module _ {g : _} where
   -- a session of a catalogue between its asks, of which there were so many at most
@@ -41,15 +42,19 @@ pub record IsReady (service : Service) (n : ℕ) : Type 0 where
   pub compacted : compactor_turns service.compactor ≤ 8195 * n
   pub sessions : AllByRecursion (IsIdle service.catalogue n) service.sessions.items
   pub count : length service.sessions.items ≡ (terms_of service.catalogue).limits.sessions
-  pub stacks : AreStacks (settings_of service.catalogue).schema service.stacks
+  pub within : AreWithin (length (feeder_journal service.feeder)) (compactor_installs service.compactor)
 
 -- the limits and the schema of its script
 abbrev pub service_terms : Service → Terms
 service_terms service = terms_of service.catalogue
 
+-- its stacks: each covers what the compactor's installs say
+abbrev pub service_stacks : Service → List StackCover
+service_stacks service = stacks_told (settings_of service.catalogue).schema (compactor_installs service.compactor)
+
 -- it stands behind rounds, which are answered so
 abbrev pub HasServed : Service → List (List ScriptEntry) → List Answer → Type 0
-HasServed service rounds said = IsServed (terms_of service.catalogue) rounds (feed_of service.feeder) service.stacks said
+HasServed service rounds said = IsServed (terms_of service.catalogue) rounds (feed_of service.feeder) (service_stacks service) said
 
 -- it stands behind rounds, and a text is that of their answers
 pub record ServiceStands (service : Service) (rounds : List (List ScriptEntry)) (text : List ℕ) : Type 0 where

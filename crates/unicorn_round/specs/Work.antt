@@ -1,11 +1,11 @@
 -- What the feeder, the compactor and the sessions do with the lines of a round.
-use Rattle.std.specs.Prelude.{ℕ, ◌≡◌, ◌*◌, ◌<◌, All, List, [], length, get_or, Result, IfOk}
+use Rattle.std.specs.Prelude.{ℕ, ◌≡◌, ◌*◌, ◌<◌, All, ◌++◌, List, [], length, get_or, Result, IfOk}
 use Rattle.std.proofs.Common.{Vec, Global}
 use Rattle.reply_text.specs.declared.answer.Answer.{Answer}
 use Rattle.script_rounds.specs.Fits.{ItemsFit}
 use Rattle.script_rounds.specs.declared.item.Item.{Item}
 use Rattle.turn_lock.specs.declared.seats.Seat.{Seat}
-use Rattle.version_catalog.specs.Seats.{compactor_journal, feeder_journal, settings_of}
+use Rattle.version_catalog.specs.Seats.{compactor_installs, compactor_journal, feeder_journal, settings_of}
 use Rattle.version_catalog.specs.declared.catalogue.Catalogue.{Catalogue}
 use Rattle.version_catalog.specs.declared.compactor.Compactor.{Compactor}
 use Rattle.version_catalog.specs.declared.entry.Entry.{Entry}
@@ -14,7 +14,7 @@ use Rattle.version_catalog.specs.declared.state.CatalogueState.{CatalogueState}
 use Rattle.session_asks.specs.Replies.{IsAsk, AreReplied}
 use Rattle.session_asks.specs.Seats.{AllHaveTaken, AllMayTake, AllReplied}
 use Rattle.session_asks.specs.declared.asks.AskLine.{AskLine}
-use Rattle.round_feed.specs.Compacted.{AreCompacted, compact_entries}
+use Rattle.round_feed.specs.Compacted.{AreCompacted, compact_entries, installs_by}
 use Rattle.round_feed.specs.Fed.{IsFed}
 use Rattle.round_feed.specs.Seats.{HasCompacted, HasFed, MayCompact, MayFeed, feed_of, terms_of}
 use Rattle.unicorn_round.specs.declared.parts.Parts.{Parts}
@@ -37,6 +37,7 @@ pub record MayTakeCompactions (catalogue : Catalogue) (items : List Item) (compa
 pub record CompactionsDone {E : Type 0} (catalogue : Catalogue) (items : List Item) (old new : Compactor) (result : Result (List Answer) E) : Type 0 where
   pub taken : HasCompacted catalogue (2 * length items) old new
   pub compacted : IfOk result (AreCompacted (length (compactor_journal old)) (length (compactor_journal new)) (compact_entries items))
+  pub installed : IfOk result (λ answers. compactor_installs new ≡ compactor_installs old ++ installs_by (compact_entries items) answers)
 
 module _ {g : _} where
   -- sessions may ask, and have asked

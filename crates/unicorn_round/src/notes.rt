@@ -1,10 +1,11 @@
 //! The seats of a round tell each other what they have seen, before it and after it.
 ghost use Rattle.std.specs.List.{AllByRecursion, AllZip};
+ghost use Rattle.std.specs.Prelude.{◌≡◌};
 ghost use mathlib.Core.List.{IsPrefix};
 ghost use Rattle.round_feed.specs.Seats.{HasCompacted};
 ghost use Rattle.session_asks.specs.Seats.{HasTaken};
 ghost use Rattle.unicorn_round.specs.Seats.{HasSpoken, IsResting};
-ghost use Rattle.version_catalog.specs.Seats.{IsCompactorOf, IsFeederOf, compactor_journal, feeder_journal, session_journal};
+ghost use Rattle.version_catalog.specs.Seats.{IsCompactorOf, IsFeederOf, compactor_installs, compactor_journal, feeder_journal, session_journal};
 
 use version_catalog::{Catalogue, Compactor, Feeder, Session};
 
@@ -67,6 +68,7 @@ pub(crate) fn tell_compactor(catalogue: &Catalogue, feeder: &mut Feeder, compact
     ensures feeder { HasSpoken catalogue.now feeder.old feeder.new }
     ensures compactor { HasCompacted catalogue.now 0 compactor.old compactor.new }
     ensures told { IsPrefix (feeder_journal feeder.old) (compactor_journal compactor.new) }
+    ensures kept { compactor_installs compactor.new ≡ compactor_installs compactor.old }
 {
     let note = catalogue.note(feeder);
     catalogue.meet(compactor, note);
@@ -79,6 +81,7 @@ pub(crate) fn hear_compactor(catalogue: &Catalogue, feeder: &mut Feeder, compact
     ensures feeder { HasSpoken catalogue.now feeder.old feeder.new }
     ensures compactor { HasCompacted catalogue.now 0 compactor.old compactor.new }
     ensures heard { IsPrefix (compactor_journal compactor.old) (feeder_journal feeder.old) }
+    ensures kept { compactor_installs compactor.new ≡ compactor_installs compactor.old }
 {
     let note = catalogue.note(compactor);
     catalogue.meet(feeder, note);

@@ -1,7 +1,9 @@
 //! The feeder, the compactor and the sessions work on the lines of a round at once.
-ghost use Rattle.std.specs.Prelude.{◌≡◌, ◌*◌, ◌≤◌, IfOk, length};
+ghost use Rattle.std.specs.Prelude.{◌≡◌, ◌++◌, ◌*◌, ◌≤◌, IfOk, length};
 ghost use Rattle.std.specs.Thread.{IsSync};
+ghost use Rattle.round_feed.specs.Compacted.{compact_entries, installs_by};
 ghost use Rattle.round_feed.specs.Seats.{HasCompacted, HasFed};
+ghost use Rattle.version_catalog.specs.Seats.{compactor_installs};
 ghost use Rattle.session_asks.specs.Seats.{AllHaveTaken};
 ghost use Rattle.unicorn_round.specs.Work.{AreAnswered, AsksDone, CompactionsDone, FeedDone, MayAsk, MayTakeCompactions, MayTakeFeed};
 
@@ -48,6 +50,7 @@ pub(crate) fn run_round<R: Threads + Wait + Sync, C: Chooser + Sync, G: Gate + S
     ensures compactor { HasCompacted catalogue.now (2 * length parts.now.compactions) compactor.old compactor.new }
     ensures sessions { AllHaveTaken catalogue.now sessions.old sessions.new parts.now.asks.items }
     ensures answered { IfOk result (AreAnswered catalogue.now parts.now feeder.old feeder.new) }
+    ensures installed { IfOk result (λ answers. compactor_installs compactor.new ≡ compactor_installs compactor.old ++ installs_by (compact_entries parts.now.compactions) answers.compacted) }
 {
     tell_sessions(catalogue, feeder, sessions);
     tell_compactor(catalogue, feeder, compactor);

@@ -12,7 +12,6 @@ use crate::answering::Answering;
 use crate::merge::text_of_answers;
 use crate::parts::Parts;
 use crate::round::run_round;
-use crate::stacks::Stacks;
 use crate::tidy::end_round;
 use rack_aggregate::Gate;
 use replica_pick::Chooser;
@@ -25,7 +24,7 @@ use uni_base::{Limits, Text};
 use uni_schema::Schema;
 use version_catalog::{Catalogue, Compactor, Feeder, Session};
 
-/// A catalogue with a seat for each task, and how much each of its stacks covers.
+/// A catalogue with a seat for each task.
 #[derive(Drop)]
 pub(crate) struct Service {
     alloc: Global,
@@ -33,7 +32,6 @@ pub(crate) struct Service {
     feeder: Feeder,
     compactor: Compactor,
     sessions: Vec<Session>,
-    stacks: Stacks,
 }
 
 impl Service {
@@ -47,7 +45,6 @@ impl Service {
         requires { IsWithinStandard limits }
         ensures { IfOk result (IsOpened service_terms IsReady ServiceStands (under limits (arc_value schema))) }
     {
-        let stacks = Stacks::open(alloc, &schema)?;
         let (catalogue, mut feeder, compactor) = Catalogue::new(rt, alloc, schema, limits)?;
         let sessions = new_sessions(alloc, &catalogue, &mut feeder, limits.sessions)?;
         Ok(Service {
@@ -56,7 +53,6 @@ impl Service {
             feeder,
             compactor,
             sessions,
-            stacks,
         })
     }
 
@@ -98,7 +94,6 @@ impl Service {
             mut feeder,
             mut compactor,
             mut sessions,
-            mut stacks,
         } = self;
         apply_extract::laws::within_has_shares();
         let parts = Parts::of(alloc, items, sessions.len() as u64)?;
@@ -118,9 +113,8 @@ impl Service {
             rt,
             alloc,
             &catalogue,
-            &feeder,
+            &mut feeder,
             &mut compactor,
-            &mut stacks,
             parts,
             answers,
             gate,
@@ -131,7 +125,6 @@ impl Service {
             feeder,
             compactor,
             sessions,
-            stacks,
         };
         Ok((service, said))
     }

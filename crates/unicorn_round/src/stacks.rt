@@ -1,11 +1,11 @@
-ghost use Rattle.std.specs.Prelude.{◌≡◌, ◌<◌, ◌^◌, ◌++◌, [], IfOk, OnOk, filter, map};
-ghost use Rattle.std.specs.List.{range_with_len};
-ghost use Rattle.unicorn_round.specs.SchemaStacks.{AreStacks};
+ghost use Rattle.std.specs.Prelude.{◌≡◌, ◌<◌, ◌^◌, ◌++◌, IfOk, OnOk, filter, map};
+ghost use Rattle.std.specs.List.{AllByRecursion, range_with_len};
+ghost use Rattle.unicorn_round.specs.SchemaStacks.{AreStacks, IsStackOf};
 ghost use Rattle.unicorn_round.specs.Stacks.{bare, covered, covering, due_untidied, is_due, is_stack, is_untidied, layers_of, name_of, opening_stacks, rows_of, stacks_in, tidy, tidy_answer, tidy_answers};
-ghost use Rattle.unicorn_round.specs.Weaving.{compacted_covers, covered_by};
+ghost use Rattle.unicorn_round.specs.Told.{read_in, stacks_of};
 
 use reply_text::{Answer, StackRow, StackRows};
-use script_rounds::Item;
+use shard_index::Version;
 use std::alloc::{AllocError, Global};
 use std::marker::Model;
 use uni_schema::{Schema, VerticalDef};
@@ -50,6 +50,16 @@ impl StackCover {
         if self.is(vertical, shard, replica) {
             self.covers = number;
         }
+    }
+
+    // It covers what its oldest layer does in a version.
+    fn read(&mut self, version: &Version)
+        requires { IsStackOf version.now.schema self.old }
+        ensures { self.new ≡ read_in version.now self.old }
+    {
+        let index = version.shard(self.vertical, self.shard, self.replica);
+        let later = (index.layers() as u64).saturating_sub(1);
+        self.covers = version.publishes().saturating_sub(later);
     }
 
     // Whether it is among those that were left as they were.
@@ -115,31 +125,29 @@ impl Stacks {
         Ok(Stacks { alloc, covers })
     }
 
+    /// The stacks as their layers stand in a version.
+    pub(crate) fn of_version(alloc: Global, version: &Version) -> Result<Stacks, AllocError>
+        ensures is { IfOk result (λ stacks. stacks ≡ stacks_of version.now) }
+        ensures are { IfOk result (AreStacks version.now.schema) }
+    {
+        let mut stacks = Stacks::open(alloc, version.schema())?;
+        stacks.read(version);
+        Ok(stacks)
+    }
+
+    // Each covers what its oldest layer does in a version.
+    fn read(&mut self, version: &Version)
+        requires { AllByRecursion (IsStackOf version.now.schema) self.old }
+        ensures { self.new ≡ map (read_in version.now) self.old }
+    {
+        read_all(self.covers.as_mut_slice(), version);
+    }
+
     /// A stack is compacted: it covers so many publishes.
     pub(crate) fn cover(&mut self, vertical: u16, shard: u32, replica: u32, number: u64)
         ensures { self.new ≡ covering vertical shard replica number self.old }
     {
         cover_one(self.covers.as_mut_slice(), vertical, shard, replica, number);
-    }
-
-    /// Stacks are compacted, those of lines that were answered by a number: they cover so many publishes.
-    pub(crate) fn cover_all(&mut self, compactions: &[Item], answers: &[Answer])
-        ensures { self.new ≡ compacted_covers self.old compactions.now answers.now }
-    {
-        for at in 0..compactions.len().min(answers.len()) {
-            self.cover_answered(&compactions[at], &answers[at]);
-        }
-    }
-
-    // The same for one line.
-    fn cover_answered(&mut self, compaction: &Item, answer: &Answer)
-        ensures { self.new ≡ covered_by self.old compaction.now answer.now }
-    {
-        if let (Item::Compact(_, vertical, shard, replica), Answer::Compacted(_, number)) = (
-            compaction, answer,
-        ) {
-            self.cover(*vertical, *shard, *replica, *number);
-        }
     }
 
     /// The stacks that are due.
@@ -215,6 +223,15 @@ impl Stacks {
             })?;
         }
         Ok(rows)
+    }
+}
+
+fn read_all(covers: &mut [StackCover], version: &Version)
+    requires { AllByRecursion (IsStackOf version.now.schema) covers.old }
+    ensures { covers.new ≡ map (read_in version.now) covers.old }
+{
+    for cover in covers.iter_mut() {
+        cover.read(version);
     }
 }
 

@@ -1,17 +1,20 @@
 //! The end of a round: stacks that are due are compacted, and the answers are put together.
-ghost use Rattle.std.specs.Prelude.{◌≡◌, ◌+◌, ◌*◌, ◌^◌, ◌<◌, ◌≤◌, ◌++◌, IfOk, OnOk, filter, length};
-ghost use Rattle.std.specs.List.{All, AllByRecursion};
-ghost use Rattle.uni_schema.specs.Schema.{Declarations};
+ghost use Rattle.std.specs.Prelude.{◌≡◌, ◌+◌, ◌*◌, ◌^◌, ◌<◌, ◌++◌, IfOk, OnOk, filter, length, map};
+ghost use Rattle.std.specs.List.{AllByRecursion};
 ghost use Rattle.round_feed.specs.Seats.{HasCompacted, MayCompact};
 ghost use Rattle.unicorn_round.specs.Ending.{IsEnded};
 ghost use Rattle.unicorn_round.specs.Parted.{slots_in};
 ghost use Rattle.unicorn_round.specs.Queues.{answers_at, shown_by};
 ghost use Rattle.unicorn_round.specs.SchemaStacks.{AreStacks, IsStackOf, is_layered};
+ghost use Rattle.unicorn_round.specs.Seats.{HasSpoken};
+ghost use Rattle.unicorn_round.specs.Stacks.{due_untidied, name_of, tidy_answers};
+ghost use Rattle.unicorn_round.specs.Told.{AreWithin, HasTidied, id_of, stacks_told};
 ghost use Rattle.unicorn_round.specs.Weaving.{merged};
-ghost use Rattle.version_catalog.specs.Bases.{IsStackId};
-ghost use Rattle.version_catalog.specs.Seats.{IsFeederOf, feeder_journal, settings_of};
+ghost use Rattle.version_catalog.specs.Installs.{IsLayered, Raises};
+ghost use Rattle.version_catalog.specs.Seats.{IsFeederOf, IsVersionOf, compactor_installs, compactor_journal, feeder_journal, settings_of};
 
 use crate::merge::{Queues, add_slots};
+use crate::notes::{hear_compactor, tell_compactor};
 use crate::parts::Parts;
 use crate::round::RoundAnswers;
 use crate::stacks::{StackCover, Stacks};
@@ -21,7 +24,7 @@ use shard_index::Version;
 use std::alloc::{AllocError, Global};
 use std::sync::Wait;
 use std::thread::Threads;
-use version_catalog::{Catalogue, Compactor, Feeder, StackId};
+use version_catalog::{Catalogue, Compactor, Feeder, Pinned, StackId};
 
 /// Ends a round whose lines were worked on: all its answers, of which the last are those of the stacks that were
 /// due.
@@ -29,30 +32,90 @@ pub(crate) fn end_round<R: Threads + Wait + Sync, G: Gate>(
     rt: &R,
     alloc: Global,
     catalogue: &Catalogue,
-    feeder: &Feeder,
+    feeder: &mut Feeder,
     compactor: &mut Compactor,
-    stacks: &mut Stacks,
     parts: Parts,
     answers: RoundAnswers,
     gate: &G,
 ) -> Result<AnswerList, AllocError>
-    requires feeder { IsFeederOf catalogue.now feeder.now }
-    requires few { length (feeder_journal feeder.now) < 2 ^ 63 }
-    requires compactor { MayCompact catalogue.now 8193 compactor.old }
-    requires stacks { AreStacks (settings_of catalogue.now).schema stacks.old }
-    ensures compactor { HasCompacted catalogue.now 8193 compactor.old compactor.new }
-    ensures stacks { OnOk result (AreStacks (settings_of catalogue.now).schema stacks.new) }
-    ensures ended { IfOk result (IsEnded (length (feeder_journal feeder.now)) stacks.old stacks.new parts answers) }
+    requires feeder { IsFeederOf catalogue.now feeder.old }
+    requires few { length (feeder_journal feeder.old) < 2 ^ 63 }
+    requires compactor { MayCompact catalogue.now 8194 compactor.old }
+    requires within { AreWithin (length (feeder_journal feeder.old)) (compactor_installs compactor.old) }
+    ensures feeder { HasSpoken catalogue.now feeder.old feeder.new }
+    ensures compactor { HasCompacted catalogue.now 8194 compactor.old compactor.new }
+    ensures within { OnOk result (AreWithin (length (feeder_journal feeder.new)) (compactor_installs compactor.new)) }
+    ensures ended { IfOk result (IsEnded (length (feeder_journal feeder.new))
+        (stacks_told (settings_of catalogue.now).schema (compactor_installs compactor.old))
+        (stacks_told (settings_of catalogue.now).schema (compactor_installs compactor.new)) parts answers) }
 {
-    stacks.cover_all(parts.compactions.as_slice(), answers.compacted.as_slice());
+    tell_compactor(catalogue, feeder, compactor);
     let made = feeder.publishes();
-    let due = stacks.due(made)?;
-    let missed = tidy_stacks(rt, alloc, catalogue, compactor, due.as_slice(), gate)?;
-    let untidied = stacks.due_among(made, missed.as_slice())?;
-    let mut tidied = Vec::new(alloc);
-    stacks.answer_due(made, untidied.as_slice(), &mut tidied)?;
-    stacks.tidy(made, untidied.as_slice());
-    put_together(alloc, parts, answers, stacks, made, tidied)
+    let (tidied, stacks) = tidy_due(rt, alloc, catalogue, compactor, made, gate)?;
+    hear_compactor(catalogue, feeder, compactor);
+    put_together(alloc, parts, answers, &stacks, made, tidied)
+}
+
+// Compacts the stacks that are due after so many publishes: what they answer, and all stacks after that.
+fn tidy_due<R: Threads + Wait + Sync, G: Gate>(
+    rt: &R,
+    alloc: Global,
+    catalogue: &Catalogue,
+    compactor: &mut Compactor,
+    made: u64,
+    gate: &G,
+) -> Result<(Vec<Answer>, Stacks), AllocError>
+    requires few { made < 2 ^ 63 }
+    requires compactor { MayCompact catalogue.now 8194 compactor.old }
+    ensures compactor { HasCompacted catalogue.now 8194 compactor.old compactor.new }
+    ensures tidied { IfOk result (λ t. length (compactor_journal compactor.old) ≡ made → length (compactor_journal compactor.new) ≡ made
+        → HasTidied (settings_of catalogue.now).schema made (compactor_installs compactor.old) (compactor_installs compactor.new) t.1 t.0.items) }
+{
+    let before = stacks_now(rt, alloc, catalogue, compactor)?;
+    let due = before.due(made)?;
+    let pinned = tidy_stacks(rt, alloc, catalogue, compactor, due.as_slice())?;
+    let version = pinned.version();
+    let answers = tidied_in(rt, alloc, version, &before, due.as_slice(), made, gate)?;
+    let after = Stacks::of_version(alloc, version)?;
+    Ok((answers, after))
+}
+
+// The stacks as they stand in the newest version.
+fn stacks_now<R: Wait>(
+    rt: &R,
+    alloc: Global,
+    catalogue: &Catalogue,
+    compactor: &mut Compactor,
+) -> Result<Stacks, AllocError>
+    requires compactor { MayCompact catalogue.now 1 compactor.old }
+    ensures compactor { HasCompacted catalogue.now 1 compactor.old compactor.new }
+    ensures kept { compactor_installs compactor.new ≡ compactor_installs compactor.old }
+    ensures told { IfOk result (λ stacks. stacks ≡ stacks_told (settings_of catalogue.now).schema (compactor_installs compactor.new)) }
+    ensures are { IfOk result (AreStacks (settings_of catalogue.now).schema) }
+{
+    let pinned = catalogue.pin_told(rt, compactor)?;
+    Stacks::of_version(alloc, pinned.version())
+}
+
+// What the stacks that were due answer, where those that still have more than one layer were left as they were.
+fn tidied_in<R: Wait, G: Gate>(
+    rt: &R,
+    alloc: Global,
+    version: &Version,
+    stacks: &Stacks,
+    due: &[StackCover],
+    made: u64,
+    gate: &G,
+) -> Result<Vec<Answer>, AllocError>
+    requires few { made < 2 ^ 63 }
+    requires due { AllByRecursion (IsStackOf version.now.schema) due.now }
+    ensures { IfOk result (λ answers. answers.items ≡ tidy_answers made (due_untidied made (map name_of (filter (is_layered version.now) due.now)) stacks.now) stacks.now) }
+{
+    let layered = layered_in(rt, alloc, version, due, gate)?;
+    let untidied = stacks.due_among(made, layered.as_slice())?;
+    let mut answers = Vec::new(alloc);
+    stacks.answer_due(made, untidied.as_slice(), &mut answers)?;
+    Ok(answers)
 }
 
 // A round's answers, and those of its stacks.
@@ -76,41 +139,29 @@ fn put_together(
     Ok(AnswerList::from_vec(said))
 }
 
-// Compacts stacks, one shard after the other, so that what is merged stands beside few of those that it replaces.
-// It tells those that were not.
-fn tidy_stacks<R: Threads + Wait + Sync, G: Gate>(
+// Compacts stacks, one shard after the other, so that what is merged stands beside few of those that it replaces. It
+// gives the newest version after that.
+fn tidy_stacks<R: Threads + Wait + Sync>(
     rt: &R,
     alloc: Global,
     catalogue: &Catalogue,
     compactor: &mut Compactor,
     due: &[StackCover],
-    gate: &G,
-) -> Result<Vec<StackCover>, AllocError>
+) -> Result<Pinned, AllocError>
     requires compactor { MayCompact catalogue.now (2 * length due.now + 1) compactor.old }
     requires stacks { AllByRecursion (IsStackOf (settings_of catalogue.now).schema) due.now }
-    ensures { HasCompacted catalogue.now (2 * length due.now + 1) compactor.old compactor.new }
+    ensures compactor { HasCompacted catalogue.now (2 * length due.now + 1) compactor.old compactor.new }
+    ensures raises { OnOk result (Raises (map id_of due.now) (length (compactor_journal compactor.old)) (compactor_installs compactor.old) (compactor_installs compactor.new)) }
+    ensures is { IfOk result (IsVersionOf (settings_of catalogue.now) (compactor_journal compactor.new)) }
+    ensures layers { IfOk result (IsLayered (settings_of catalogue.now).schema (compactor_installs compactor.new) (length (compactor_journal compactor.new))) }
 {
-    let mut missed = Vec::new(alloc);
-    if due.is_empty() {
-        return Ok(missed);
-    }
     let ids = ids_of(alloc, due)?;
-    match catalogue.compact_stacks(rt, compactor, &ids, 1) {
-        Ok(pinned) => {
-            let version = pinned.version();
-            layered_in(rt, alloc, version, due, gate)
-        }
-        Err(_) => {
-            missed.extend_from_slice(due)?;
-            Ok(missed)
-        }
-    }
+    catalogue.compact_stacks(rt, compactor, &ids, 1)
 }
 
 // The stacks by their numbers.
 fn ids_of(alloc: Global, stacks: &[StackCover]) -> Result<Vec<StackId>, AllocError>
-    ensures length { IfOk result (λ ids. length ids.items ≡ length stacks.now) }
-    ensures each { IfOk result (λ ids. (schema : Declarations) → All (IsStackOf schema) stacks.now → All (IsStackId schema) ids.items) }
+    ensures { IfOk result (λ ids. ids.items ≡ map id_of stacks.now) }
 {
     let mut ids = Vec::with_capacity(alloc, stacks.len())?;
     for stack in stacks {

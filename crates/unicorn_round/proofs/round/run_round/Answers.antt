@@ -1,7 +1,8 @@
-use Rattle.std.proofs.Common.{sym, subst, ◌∙◌}
+use Rattle.std.proofs.Common.{◌++◌, ap, sym, subst, ◌∙◌}
 use mathlib.Core.List.{IsPrefix}
 use Rattle.session_asks.specs.Seats.{AllHaveTaken, AllReplied}
 use Rattle.version_catalog.specs.Seats.{compactor_journal, settings_of}
+use Rattle.round_feed.specs.Compacted.{compact_entries, installs_by}
 use Rattle.round_feed.specs.Feeds.{Feed}
 use Rattle.unicorn_round.specs.Work.{MayAsk}
 use Rattle.unicorn_round.proofs.Results.{at_if_ok}
@@ -58,3 +59,9 @@ returns-clause-answered g c =
     (subst (AllHaveTaken c.args.catalogue.now c.tell_sessions.new.sessions c.work-fed.new.sessions) c.as_slice.ensures.value c.work-fed.ensures.asked.taken)
     c.tell_sessions.ensures.told
     (heard_by c.hear_compactor.new.feeder c.work-fed.new.feeder (sym kept) c.work-fed.new.sessions c.hear_sessions.ensures.heard)
+
+pub returns-clause-installed : goal.returns-clause-installed
+returns-clause-installed g c =
+    c.hear_compactor.ensures.kept
+    ∙ at_if_ok _ c.work-fed.result.1.0 c.in_ok-compacted.field-0 (c.in_ok-compacted.was {u = tt}) c.work-fed.ensures.compacted.installed
+    ∙ ap (λ is. is ++ installs_by (compact_entries c.args.parts.now.compactions) c.in_ok-compacted.field-0) c.tell_compactor.ensures.kept

@@ -1,63 +1,39 @@
-use Rattle.std.proofs.Common.{◌≡◌, ◌++◌, arith, map, ap, ◌∙◌}
-use Rattle.version_catalog.specs.Seats.{settings_of}
+use Rattle.std.proofs.Common.{◌≡◌, ◌++◌, ◌+◌, arith, length, sym, subst, ap}
+use Rattle.version_catalog.specs.Seats.{compactor_installs, feeder_journal, settings_of}
+use Rattle.round_feed.specs.Feeds.{Feed}
 use Rattle.unicorn_round.specs.Ending.{IsEnded}
 use Rattle.unicorn_round.specs.Parted.{slots_in}
 use Rattle.unicorn_round.specs.Queues.{answers_at, shown_by}
-use Rattle.unicorn_round.specs.Stacks.{is_due, name_of, tidy, tidy_answers}
+use Rattle.unicorn_round.specs.Told.{AreWithin, stacks_told}
 use Rattle.unicorn_round.specs.Weaving.{merged}
-use Rattle.unicorn_round.proofs.EndingSteps.{all_are, due_are, is_ended}
+use Rattle.unicorn_round.proofs.EndingSteps.{is_ended, seen_alike}
 use Rattle.unicorn_round.proofs.Results.{if_ok, on_ok}
 use Rattle.unicorn_round.proofs.tidy.end_round.Goals as goal
 
-pub tidy_stacks-requires-clause-compactor : goal.tidy_stacks-requires-clause-compactor
-tidy_stacks-requires-clause-compactor g c κs within =
-    let due = due_are (settings_of c.args.catalogue.now).schema c.args.stacks.now c.cover_all.new.self c.as_slice.result.now c.as_slice-2.result.now c.requires.stacks c.cover_all.ensures (is_due c.publishes-made.result) c.in_ok-due.due.items c.as_slice-3.result.now c.as_slice-3.ensures.value (c.in_ok-due.ensures {u = tt}) in
-    record { of = c.requires.compactor.of; few = omega (arith, c.requires.compactor.few, due.few) }
-
-pub tidy_stacks-requires-clause-stacks : goal.tidy_stacks-requires-clause-stacks
-tidy_stacks-requires-clause-stacks g c κs within =
-    let due = due_are (settings_of c.args.catalogue.now).schema c.args.stacks.now c.cover_all.new.self c.as_slice.result.now c.as_slice-2.result.now c.requires.stacks c.cover_all.ensures (is_due c.publishes-made.result) c.in_ok-due.due.items c.as_slice-3.result.now c.as_slice-3.ensures.value (c.in_ok-due.ensures {u = tt}) in due.each
-
-pub returns-in_err-missed-clause-compactor : goal.returns-in_err-missed-clause-compactor
-returns-in_err-missed-clause-compactor g c =
-    let due = due_are (settings_of c.args.catalogue.now).schema c.args.stacks.now c.cover_all.new.self c.as_slice.result.now c.as_slice-2.result.now c.requires.stacks c.cover_all.ensures (is_due c.publishes-made.result) c.in_ok-due.due.items c.as_slice-3.result.now c.as_slice-3.ensures.value (c.in_ok-due.ensures {u = tt}) in
-    record { of = c.tidy_stacks.ensures.of; few = omega (arith, c.tidy_stacks.ensures.few, due.few); later = c.tidy_stacks.ensures.later }
-
-pub returns-in_err-untidied-clause-compactor : goal.returns-in_err-untidied-clause-compactor
-returns-in_err-untidied-clause-compactor g c =
-    let due = due_are (settings_of c.args.catalogue.now).schema c.args.stacks.now c.cover_all.new.self c.as_slice.result.now c.as_slice-2.result.now c.requires.stacks c.cover_all.ensures (is_due c.publishes-made.result) c.in_ok-due.due.items c.as_slice-3.result.now c.as_slice-3.ensures.value (c.in_ok-due.ensures {u = tt}) in
-    record { of = c.tidy_stacks.ensures.of; few = omega (arith, c.tidy_stacks.ensures.few, due.few); later = c.tidy_stacks.ensures.later }
-
-pub returns-in_err-answer_due-clause-compactor : goal.returns-in_err-answer_due-clause-compactor
-returns-in_err-answer_due-clause-compactor g c =
-    let due = due_are (settings_of c.args.catalogue.now).schema c.args.stacks.now c.cover_all.new.self c.as_slice.result.now c.as_slice-2.result.now c.requires.stacks c.cover_all.ensures (is_due c.publishes-made.result) c.in_ok-due.due.items c.as_slice-3.result.now c.as_slice-3.ensures.value (c.in_ok-due.ensures {u = tt}) in
-    record { of = c.tidy_stacks.ensures.of; few = omega (arith, c.tidy_stacks.ensures.few, due.few); later = c.tidy_stacks.ensures.later }
-
-pub returns-clause-compactor : goal.returns-clause-compactor
-returns-clause-compactor g c =
-    let due = due_are (settings_of c.args.catalogue.now).schema c.args.stacks.now c.cover_all.new.self c.as_slice.result.now c.as_slice-2.result.now c.requires.stacks c.cover_all.ensures (is_due c.publishes-made.result) c.in_ok-due.due.items c.as_slice-3.result.now c.as_slice-3.ensures.value (c.in_ok-due.ensures {u = tt}) in
-    record { of = c.tidy_stacks.ensures.of; few = omega (arith, c.tidy_stacks.ensures.few, due.few); later = c.tidy_stacks.ensures.later }
-
-pub returns-clause-stacks : goal.returns-clause-stacks
-returns-clause-stacks g c =
-    on_ok c.put_together.result
-    (all_are (settings_of c.args.catalogue.now).schema c.args.stacks.now c.cover_all.new.self c.as_slice.result.now c.as_slice-2.result.now c.requires.stacks c.cover_all.ensures
-    c.publishes-made.result (map name_of c.as_slice-6.result.now) c.tidy.new.self c.tidy.ensures)
+pub returns-clause-within : goal.returns-clause-within
+returns-clause-within g c =
+    let made = c.publishes-made.result in
+    let seen = seen_alike c.args.feeder.now c.tell_compactor.new.feeder c.tell_compactor.new.compactor c.tidy_due.new.compactor made c.tell_compactor.ensures.told c.tidy_due.ensures.compactor.later c.hear_compactor.ensures.heard
+    c.tell_compactor.ensures.feeder.feed c.publishes-made.ensures in
+    let tidied = (c.in_ok-tidied.ensures {u = tt}).tidied seen.0 seen.1 in
+    let fed : length (feeder_journal c.args.feeder.now) ≡ made = omega (arith, ap (λ (f : Feed). length f.journal) c.tell_compactor.ensures.feeder.feed, c.publishes-made.ensures) in
+    let end : made ≡ length (feeder_journal c.hear_compactor.new.feeder) = omega (arith, c.publishes-made.ensures, ap (λ (f : Feed). length f.journal) c.hear_compactor.ensures.feeder.feed) in
+    let kept : AreWithin made (compactor_installs c.tell_compactor.new.compactor) = subst (AreWithin made) (sym c.tell_compactor.ensures.kept) (subst (λ n. AreWithin n (compactor_installs c.args.compactor.now)) fed c.requires.within) in
+    on_ok c.put_together.result (subst (λ n. AreWithin n (compactor_installs c.hear_compactor.new.compactor)) end (subst (AreWithin made) (sym c.hear_compactor.ensures.kept) (tidied.within kept)))
 
 pub returns-clause-ended : goal.returns-clause-ended
 returns-clause-ended g c =
+    let schema = (settings_of c.args.catalogue.now).schema in
     let made = c.publishes-made.result in
-    let mid = c.cover_all.new.self in
-    let new = c.tidy.new.self in
+    let stacks = c.in_ok-tidied.stacks in
     let answers = c.args.answers in
-    let names = map name_of c.in_ok-untidied.untidied.items in
-    let tidied : c.answer_due.new.answers.items ≡ tidy_answers made names mid =
-    c.in_ok-answer_due.ensures {u = tt} ∙ ap (λ ls. ls ++ tidy_answers made (map name_of c.as_slice-5.result.now) mid) c.new-tidied.ensures.items
-    ∙ ap (λ us. tidy_answers made (map name_of us) mid) c.as_slice-5.ensures.value in
-    if_ok (λ said. said ≡ merged (shown_by made new) (slots_in c.args.parts) answers.fed (answers_at answers.asked.items) answers.compacted ++ c.answer_due.new.answers.items)
-    (IsEnded _ c.args.stacks.now new c.args.parts answers) c.put_together.result
+    let seen = seen_alike c.args.feeder.now c.tell_compactor.new.feeder c.tell_compactor.new.compactor c.tidy_due.new.compactor made c.tell_compactor.ensures.told c.tidy_due.ensures.compactor.later c.hear_compactor.ensures.heard
+    c.tell_compactor.ensures.feeder.feed c.publishes-made.ensures in
+    let tidied = (c.in_ok-tidied.ensures {u = tt}).tidied seen.0 seen.1 in
+    let end : made ≡ length (feeder_journal c.hear_compactor.new.feeder) = omega (arith, c.publishes-made.ensures, ap (λ (f : Feed). length f.journal) c.hear_compactor.ensures.feeder.feed) in
+    if_ok (λ said. said ≡ merged (shown_by made stacks) (slots_in c.args.parts) answers.fed (answers_at answers.asked.items) answers.compacted ++ c.in_ok-tidied.tidied.items)
+    (IsEnded (length (feeder_journal c.hear_compactor.new.feeder)) (stacks_told schema (compactor_installs c.args.compactor.now)) (stacks_told schema (compactor_installs c.hear_compactor.new.compactor)) c.args.parts answers) c.put_together.result
     (λ said says.
-    is_ended _ made c.args.stacks.now mid new c.args.parts answers said (map name_of c.as_slice-4.result.now) names c.answer_due.new.answers.items c.as_slice.result.now c.as_slice-2.result.now
-    c.publishes-made.ensures c.as_slice.ensures c.as_slice-2.ensures c.cover_all.ensures (c.in_ok-untidied.ensures {u = tt}) tidied
-    (c.tidy.ensures ∙ ap (λ us. map (tidy made (map name_of us)) mid) c.as_slice-6.ensures.value) says)
+    is_ended schema made _ (compactor_installs c.tell_compactor.new.compactor) (compactor_installs c.args.compactor.now) (compactor_installs c.tidy_due.new.compactor) (compactor_installs c.hear_compactor.new.compactor)
+    stacks c.in_ok-tidied.tidied.items c.args.parts answers said end c.tell_compactor.ensures.kept (sym c.hear_compactor.ensures.kept) tidied says)
     c.put_together.ensures

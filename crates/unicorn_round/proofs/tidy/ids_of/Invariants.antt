@@ -1,11 +1,6 @@
-use Rattle.std.proofs.Common.{◌≡◌, All, length}
-use Rattle.uni_schema.specs.Schema.{Declarations}
-use Rattle.version_catalog.specs.Bases.{IsStackId}
-use Rattle.unicorn_round.specs.SchemaStacks.{IsStackOf}
+use Rattle.std.proofs.Common.{◌≡◌, map, take}
+use Rattle.unicorn_round.specs.Told.{id_of}
 use Rattle.unicorn_round.proofs.tidy.ids_of.Given as goal
 
 abbrev pub invariant-loop-stack : goal.invariant-loop-stack
-invariant-loop-stack l = record {
-  length : length l.ids.items ≡ l.stack-index;
-  each : (schema : Declarations) → All (IsStackOf schema) l.fn.stacks → All (IsStackId schema) l.ids.items;
-}
+invariant-loop-stack l = l.ids.items ≡ map id_of (take l.stack-index l.stacks)

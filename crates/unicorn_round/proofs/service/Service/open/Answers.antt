@@ -1,8 +1,6 @@
-use Rattle.std.proofs.Common.{rules, ◌≡◌, ap, subst, ◌∙◌}
+use Rattle.std.proofs.Common.{ap, ◌∙◌}
 use Rattle.std.specs.Arc.{arc_value}
 use Rattle.uni_table.specs.TableState.{TableState}
-use Rattle.unicorn_round.specs.SchemaStacks.{AreStacks}
-use Rattle.unicorn_round.specs.Stacks.{opening_stacks}
 use Rattle.unicorn_round.proofs.ReadyService.{opened}
 use Rattle.unicorn_round.proofs.service.Service.open.Goals as goal
 
@@ -11,7 +9,5 @@ returns g c =
     let schema = arc_value c.args.schema in
     let new = c.in_ok-catalogue.ensures in
     let kept = c.new_sessions.ensures.kept in
-    let under : c.deref.result.now ≡ schema = search rules in
     opened _ c.args.limits schema new.settings c.requires c.new_sessions.ensures.feeder (kept.0 ∙ new.journals.0) (kept.3 ∙ new.batch)
-    (ap (λ (t : TableState). t.contents) (kept.2 ∙ new.table)) (kept.1 ∙ new.counts.0) new.compactor new.counts.2 c.in_ok-sessions.ensures.sessions
-    (c.in_ok-stacks.ensures.opening ∙ ap opening_stacks under) (subst (λ s. AreStacks s c.in_ok-stacks.stacks) under c.in_ok-stacks.ensures.are)
+    (ap (λ (t : TableState). t.contents) (kept.2 ∙ new.table)) (kept.1 ∙ new.counts.0) new.compactor new.counts.2 c.in_ok-sessions.ensures.sessions new.installs
