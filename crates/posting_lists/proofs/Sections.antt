@@ -1,6 +1,7 @@
 -- Sections of postings in rank order.
 use Rattle.std.proofs.Common.{◌≡◌, ℕ, zero, suc, ◌+◌, ◌-◌, ◌<◌, ◌≤◌, true, false, not, cond, List, [], ◌∷◌, ◌++◌, take, drop, length, get_or, slice_get, Some, refl, sym, ◌∙◌, ap, subst, arith, All, length-drop}
-use Rattle.std.proofs.lemmas.List.{take-map, drop-map, drop-take, drop-drop, get_or-take, get_or-drop, get_or-map, length-map, length-take, map-append}
+use Rattle.std.proofs.lemmas.List.{take-map, take_more, drop-map, drop-take, drop-drop, get_or-take, get_or-drop, get_or-map, length-map, length-take, map-append}
+use Rattle.std.proofs.lemmas.Option.{get_or_from_slice_get, slice_get_within}
 use Rattle.std.proofs.lemmas.List.Elements.{All-head, All-tail, All-nil, All-cons, All-append}
 use Rattle.uni_base.specs.declared.entity.DocKey.{DocKey}
 use Rattle.uni_base.specs.Cursors.{is_before, IsRanked, keys_from}
@@ -24,6 +25,15 @@ drop-section n from to xs le =
 
 pub get_or-section : {X : Type 0} (from to i : ℕ) (xs : List X) (d : X) → from + i < to → get_or (section from to xs) i d ≡ get_or xs (from + i) d
 get_or-section from to i xs d lt = get_or-take (to - from) (drop from xs) i d (omega arith) ∙ get_or-drop from xs i d
+
+-- a section that gains one item
+pub section_more : {X : Type 0} (from i : ℕ) (xs : List X) (x : X) → from ≤ i → slice_get xs i ≡ Some x → section from (i + 1) xs ≡ section from i xs ++ x ∷ []
+section_more from i xs x le at =
+    let fits : i < length xs = slice_get_within xs i x at in
+    let one : i + 1 - from ≡ i - from + 1 = omega arith in
+    let place : from + (i - from) ≡ i = omega arith in
+    ap (λ n. take n (drop from xs)) one ∙ take_more (drop from xs) (i - from) x (omega (arith, length-drop from xs))
+    ∙ ap (λ y. section from i xs ++ y ∷ []) (get_or-drop from xs (i - from) x ∙ ap (λ n. get_or xs n x) place ∙ get_or_from_slice_get xs i x x at)
 
 -- the keys of a ranked list by their places
 pub ranked_at : (keys : List DocKey) (i j : ℕ) (d : DocKey) → IsRanked keys → i < j → j < length keys → is_before (get_or keys i d) (get_or keys j d) ≡ true

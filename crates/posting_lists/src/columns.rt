@@ -1,4 +1,4 @@
-ghost use Rattle.std.specs.Prelude.{◌≡◌, ◌≤◌, ◌<◌, ◌+◌, ◌-◌, ◌*◌, ◌++◌, ◌∷◌, ◌==◌, [], length, take, drop, IfOk, OnOk, OnErr, Some, slice_get};
+ghost use Rattle.std.specs.Prelude.{◌≡◌, ℕ, ◌≤◌, ◌<◌, ◌+◌, ◌-◌, ◌*◌, ◌++◌, ◌∷◌, ◌==◌, [], length, take, drop, IfOk, OnOk, OnErr, Some, slice_get};
 ghost use Rattle.std.specs.Vec.{vec_len, vec_capacity};
 ghost use Rattle.posting_lists.specs.Postings.{keys_of, section};
 ghost use Rattle.posting_lists.specs.Search.{RisesWithin, IsFirstFrom, most_comparisons};
@@ -80,6 +80,24 @@ impl PostingColumns {
         self.keys.push(posting.key)?;
         if self.keys.len() % BLOCK == 0 {
             self.lasts.push(posting.key)?;
+        }
+        Ok(())
+    }
+
+    /// Adds the postings of other columns from one place to another at the end. Where there is no
+    /// memory for all of them, the first ones are added.
+    pub fn append(
+        &mut self,
+        other: &PostingColumns,
+        from: usize,
+        to: usize,
+    ) -> Result<(), AllocError>
+        requires { (from ≤ to) × (to ≤ length other.now) }
+        ensures ok { OnOk result (self.new ≡ self.old ++ section from to other.now) }
+        ensures err { OnErr result ((until : ℕ) × (from ≤ until) × (until < to) × (self.new ≡ self.old ++ section from until other.now)) }
+    {
+        for i in from..to {
+            self.push(other.posting(i))?;
         }
         Ok(())
     }
