@@ -1,5 +1,5 @@
 -- Postings put term by term, by look-ups.
-use Rattle.std.proofs.Common.{◌≡◌, ℕ, zero, suc, ◌+◌, ◌-◌, ◌<◌, ◌≤◌, Bool, true, false, cond, ◌||◌, List, [], ◌∷◌, ◌++◌, map, filter, take, length, reverse, slice_get, Option, None, Some, refl, sym, ◌∙◌, ap, subst, is_some, arith}
+use Rattle.std.proofs.Common.{◌≡◌, ℕ, zero, suc, ◌+◌, ◌-◌, ◌<◌, ◌≤◌, Bool, true, false, cond, ◌||◌, List, [], ◌∷◌, ◌++◌, map, filter, take, length, reverse, slice_get, append-nil, append_assoc, Option, None, Some, refl, sym, ◌∙◌, ap, subst, is_some, arith}
 use Rattle.std.specs.Cmp.{Equal-is}
 use Rattle.std.specs.Prelude.{T}
 use Rattle.std.specs.List.{list_any}
@@ -18,24 +18,24 @@ use Rattle.uni_base.specs.RankOrder.{doc_cmp}
 use Rattle.uni_base.proofs.RankedLemmas.{doc_total, exact_key}
 use Rattle.posting_lists.specs.declared.posting.Posting.{Posting}
 use Rattle.posting_lists.specs.Postings.{section}
+use Rattle.posting_lists.proofs.Sections.{section_more}
 use Rattle.layer_base.specs.Lookups.{either}
 use Rattle.layer_base.specs.Layers.{from_log, put_all, layer_over, stack_over, stack_table}
 use Rattle.layer_base.proofs.Among.{among-append, among_noted, among_first, is_done, done_further, done_skipped, done_copied, done_whole, or_false, or_nothing, or_assoc}
 use Rattle.layer_base.specs.Among.{bare}
 use Rattle.layer_base.proofs.Rising.{log_sorted}
-use Rattle.layer_base.proofs.Tables.{get-put_all, get-layer_over}
-use Rattle.layer_stack.specs.declared.directory.Span.{Span}
+use Rattle.layer_base.proofs.Tables.{from_log-push, get-put_all, get-layer_over}
 use Rattle.layer_stack.specs.declared.place.Place.{Place}
 use Rattle.layer_stack.specs.declared.place.TermKey.{TermKey}
 use Rattle.layer_stack.specs.declared.term_spans.TermSpans.{TermSpans}
 use Rattle.layer_stack.specs.Directories.{puts_in, put_spans}
+use Rattle.layer_stack.specs.Based.{ArePutAlone}
 use Rattle.layer_stack.specs.Combined.{is_among, is_changed, AreChanged, putting_terms, StandsAlone}
 use Rattle.layer_stack.specs.Places.{term_cmp, place_cmp}
 use Rattle.layer_stack.specs.Postings.{PostingTable, PostingChanges, no_changes, putting_all, is_under, place_of, posting_of, key_of, postings_of, putting, putting_list}
 use Rattle.layer_stack.specs.Spans.{span_of, told}
 use Rattle.layer_stack.specs.Stacks.{entry_of, posting_at}
 use Rattle.layer_stack.specs.Words.{has_term}
-use Rattle.layer_stack.proofs.Sections.{section_more}
 use Rattle.layer_stack.proofs.Order.{term_total, term_apart, place_total, place_apart}
 use Rattle.layer_stack.proofs.Terms.{keyed, get-under, get-layer, sorted_keyed, posting_at-keyed}
 use Rattle.layer_stack.proofs.Directories.{found_by}
@@ -46,10 +46,10 @@ put_all-append : {K X : Type 0} {R : K → K → Ordering} (xs ys : List (K × X
 put_all-append [] ys m = refl
 put_all-append (x ∷ xs) ys m = ap (λ n. finite.insert n x.0 x.1) (put_all-append xs ys m)
 
-abbrev put_row : TermKey → Posting → Place × Audience
+abbrev pub put_row : TermKey → Posting → Place × Audience
 put_row t p = (place_of t p.key, p.audience)
 
-list_deletes : (t : TermKey) (ps : List Posting) (c : PostingChanges) → (putting_list t ps c).deletes ≡ c.deletes
+pub list_deletes : (t : TermKey) (ps : List Posting) (c : PostingChanges) → (putting_list t ps c).deletes ≡ c.deletes
 list_deletes t [] c = refl
 list_deletes t (p ∷ ps) c = list_deletes t ps (putting c (place_of t p.key) p.audience)
 
@@ -58,6 +58,13 @@ list_puts t [] c = refl
 list_puts t (p ∷ ps) c =
     list_puts t ps (putting c (place_of t p.key) p.audience)
     ∙ sym (ap (λ rows. put_all rows c.puts) (reverse-append (put_row t p ∷ []) (map (put_row t) ps)) ∙ put_all-append (reverse (map (put_row t) ps)) (put_row t p ∷ []) c.puts)
+
+-- a log to which the rows of a list are added
+pub log_list : (t : TermKey) (ps : List Posting) (rows : List (Place × Audience)) (c : PostingChanges) → from_log {R = place_cmp} rows ≡ c.puts → from_log {R = place_cmp} (rows ++ map (put_row t) ps) ≡ (putting_list t ps c).puts
+log_list t [] rows c same = ap (from_log {R = place_cmp}) (append-nil rows) ∙ same
+log_list t (p ∷ ps) rows c same =
+    ap (from_log {R = place_cmp}) (sym (append_assoc rows (put_row t p ∷ []) (map (put_row t) ps)))
+    ∙ log_list t ps (rows ++ put_row t p ∷ []) (putting c (place_of t p.key) p.audience) (from_log-push rows (place_of t p.key) p.audience ∙ ap (λ m. finite.insert m (place_of t p.key) p.audience) same)
 
 -- a list and then another one
 pub list_more : (t : TermKey) (ps : List Posting) (p : Posting) (c : PostingChanges) → putting_list t (ps ++ p ∷ []) c ≡ putting (putting_list t ps c) (place_of t p.key) p.audience
@@ -95,7 +102,7 @@ pub record Has (table : PostingTable) (done : TermKey → Bool) (c : PostingChan
   pub deletes : c.deletes ≡ finite.empty
   pub puts : (q : Place) → finite.get c.puts q ≡ cond (done q.term) (finite.get table q) None
 
-has_alike : (table : PostingTable) (done other : TermKey → Bool) (c : PostingChanges) → ((s : TermKey) → done s ≡ other s) → Has table done c → Has table other c
+pub has_alike : (table : PostingTable) (done other : TermKey → Bool) (c : PostingChanges) → ((s : TermKey) → done s ≡ other s) → Has table done c → Has table other c
 has_alike table done other c alike has = record {
   deletes = has.deletes;
   puts = λ q. has.puts q ∙ ap (λ b. cond b (finite.get table q) None) (alike q.term);
@@ -116,7 +123,7 @@ has_list table done t c has = record {
     by true false (Some x) = refl
     by false b o = refl
 
-has_terms : (table : PostingTable) (es : List (TermKey × Unit {0})) (done : TermKey → Bool) (c : PostingChanges) → Has table done c → Has table (λ s. is_among s es || done s) (putting_terms table es c)
+pub has_terms : (table : PostingTable) (es : List (TermKey × Unit {0})) (done : TermKey → Bool) (c : PostingChanges) → Has table done c → Has table (λ s. is_among s es || done s) (putting_terms table es c)
 has_terms table [] done c has = has_alike table done (λ s. is_among {X = Unit {0}} s [] || done s) c (λ s. refl) has
 has_terms table (e ∷ es) done c has =
     has_alike table (λ s. is_among s es || (eq_by_cmp term_cmp s e.0 || done s)) (λ s. is_among s (e ∷ es) || done s) (putting_terms table (e ∷ es) c) (λ s. among_first term_cmp s e es (done s))
@@ -142,7 +149,7 @@ done_span table changed to rows e ps c alone has = by (is_among e.0 changed) ref
         (subst (λ (qs : List Posting). Has table (λ s. eq_by_cmp term_cmp s e.0 || is_done term_cmp changed to rows s) (putting_list e.0 qs c)) (sym (alone is)) (has_list table (is_done term_cmp changed to rows) e.0 c has))
 
 -- a term without postings has nothing at any key
-none_at : (table : PostingTable) (q : Place) → [] ≡ postings_of q.term table → finite.get table q ≡ None
+pub none_at : (table : PostingTable) (q : Place) → [] ≡ postings_of q.term table → finite.get table q ≡ None
 none_at table q none = get-under q.term q.key table ∙ ap (λ es. find doc_cmp q.key (map keyed es)) (empty (filter (is_under q.term) (finite.entries table)) none)
   where
     empty : (rows : List (Place × Audience)) → [] ≡ map posting_of rows → rows ≡ []
@@ -169,7 +176,7 @@ all_done table changed to es ps c whole sorted alone has = λ i. record { delete
 
 -- ---- under terms that newer layers leave alone, the oldest one stands alone
 
-filter_none : {X : Type 0} (p : X → Bool) (xs : List X) → list_any p xs ≡ false → filter p xs ≡ []
+pub filter_none : {X : Type 0} (p : X → Bool) (xs : List X) → list_any p xs ≡ false → filter p xs ≡ []
 filter_none p [] none = refl
 filter_none p (x ∷ xs) none =
     elim (p x) as (λ b. (b || list_any p xs) ≡ false → cond b (x ∷ filter p xs) (filter p xs) ≡ []) [
@@ -196,7 +203,7 @@ get_oldest q layer =
     by (Some a) b = refl
 
 -- tables that answer alike under a term have the same postings there
-same_postings : (t : TermKey) (m n : PostingTable) → ((k : DocKey) → finite.get m (place_of t k) ≡ finite.get n (place_of t k)) → postings_of t m ≡ postings_of t n
+pub same_postings : (t : TermKey) (m n : PostingTable) → ((k : DocKey) → finite.get m (place_of t k) ≡ finite.get n (place_of t k)) → postings_of t m ≡ postings_of t n
 same_postings t m n alike =
     sym (posting_at-keyed (filter (is_under t) (finite.entries m)))
     ∙ ap (map posting_at) (same_entries doc_cmp doc_total exact_key (map keyed (filter (is_under t) (finite.entries m))) (map keyed (filter (is_under t) (finite.entries n)))
@@ -211,20 +218,20 @@ first_layer (x ∷ layers) (suc n) base at some =
     let less : suc n - 1 ≡ n = omega arith in
     λ i. is i ∷ take (sym less i) layers
 
-pub oldest_alone : (layers : List PostingChanges) (count : ℕ) (base : PostingChanges) (changed : List (TermKey × Unit {0})) (spans : List (TermKey × Span)) (ps : List Posting) → slice_get layers 0 ≡ Some base → 0 < count
-    → AreChanged (section 1 count layers) changed → ((t : TermKey) → postings_of t base.puts ≡ told (span_of t spans) ps) → StandsAlone changed spans ps (stack_table (take count layers))
-oldest_alone layers count base changed spans ps at some are tells t none =
-    sym (tells t) ∙ same_postings t base.puts (stack_table (take count layers)) (λ k. sym (
-    ap (λ ls. finite.get (stack_table ls) (place_of t k)) (first_layer layers count base at some)
-    ∙ get_unchanged t k (section 1 count layers) (layer_over finite.empty base) (sym (are.exact t) ∙ none) ∙ get_oldest (place_of t k) base))
+pub oldest_alone : (layers : List PostingChanges) (count : ℕ) (oldest : PostingChanges) (changed : List (TermKey × Unit {0})) → slice_get layers 0 ≡ Some oldest → 0 < count
+    → AreChanged (section 1 count layers) changed → ArePutAlone changed oldest (stack_table (take count layers))
+oldest_alone layers count oldest changed at some are t none =
+    same_postings t oldest.puts (stack_table (take count layers)) (λ k. sym (
+    ap (λ ls. finite.get (stack_table ls) (place_of t k)) (first_layer layers count oldest at some)
+    ∙ get_unchanged t k (section 1 count layers) (layer_over finite.empty oldest) (are.others t none) ∙ get_oldest (place_of t k) oldest))
 
 -- ---- the terms that are changed
 
-pub changed_more : (t : TermKey) (layers : List PostingChanges) (i : ℕ) (layer : PostingChanges) (old new : Bool) → 1 ≤ i → slice_get layers i ≡ Some layer → old ≡ is_changed t (section 1 i layers) → new ≡ (old || has_term t layer)
-    → new ≡ is_changed t (section 1 (i + 1) layers)
-changed_more t layers i layer old new le at so_far adds =
-    adds ∙ ap (λ b. b || has_term t layer) so_far
-    ∙ sym (ap (is_changed t) (section_more 1 i layers layer le at) ∙ list_any-append (has_term t) (section 1 i layers) (layer ∷ []) ∙ ap (λ b. is_changed t (section 1 i layers) || b) (or_nothing (has_term t layer)))
+pub changed_more : (t : TermKey) (layers : List PostingChanges) (i : ℕ) (layer : PostingChanges) → 1 ≤ i → slice_get layers i ≡ Some layer → is_changed t (section 1 i layers) ≡ false → has_term t layer ≡ false
+    → is_changed t (section 1 (i + 1) layers) ≡ false
+changed_more t layers i layer le at so_far none =
+    ap (is_changed t) (section_more 1 i layers layer le at) ∙ list_any-append (has_term t) (section 1 i layers) (layer ∷ []) ∙ ap (λ b. is_changed t (section 1 i layers) || b) (or_nothing (has_term t layer))
+    ∙ (λ j. so_far j || none j)
 
 pub note_more : {X : Type 0} (t : TermKey) (terms : List (TermKey × Unit {0})) (yielded : List (TermKey × X)) (e : TermKey × X) (older : Bool) → is_among t terms ≡ (older || is_among t yielded)
     → is_among t (terms ++ bare e ∷ []) ≡ (older || is_among t (yielded ++ e ∷ []))

@@ -2,7 +2,6 @@ pub mod Grouped
 pub mod Heads
 pub mod Held
 pub mod Laid
-pub mod Sections
 pub mod Merged
 pub mod Order
 pub mod Directories
@@ -12,4 +11,5 @@ pub mod Under
 pub mod Told
 pub mod Settled
 pub mod Combined
+pub mod Based
 pub mod Passed

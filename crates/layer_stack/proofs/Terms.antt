@@ -48,7 +48,7 @@ find-under {V} t k (e ∷ es) =
 pub get-under : {V : Type 0} (t : TermKey) (k : DocKey) (m : finite.FinMap place_cmp V) → finite.get m (place_of t k) ≡ find doc_cmp k (map keyed (filter (is_under t) (finite.entries m)))
 get-under t k m = finite.get-entries m (place_of t k) ∙ find-under t k (finite.entries m)
 
-entries_of_postings : (rows : List (Place × Audience)) → map entry_of (map posting_of rows) ≡ map keyed rows
+pub entries_of_postings : (rows : List (Place × Audience)) → map entry_of (map posting_of rows) ≡ map keyed rows
 entries_of_postings [] = refl
 entries_of_postings (r ∷ rows) = ap (λ es. keyed r ∷ es) (entries_of_postings rows)
 

@@ -8,13 +8,13 @@ use Rattle.std.specs.Ordering.{is_lt, ordering_then, eq_by_cmp}
 use Rattle.std.specs.Cmp.{Equal-is}
 use Rattle.std.proofs.lemmas.Bool.{eqb-true}
 use Rattle.std.proofs.lemmas.Grind.{flat_map-append}
-use Rattle.std.proofs.lemmas.List.{drop-append-le, take-append-le, take_more, length-append, length-map}
+use Rattle.std.proofs.lemmas.List.{drop-append-le, take-append-le, take_all, take_more, length-append, length-map}
 use Rattle.std.proofs.lemmas.List.Elements.{All-head, All-tail, All-push, All-weaker, All-cons, All-more}
 use Rattle.uni_base.specs.declared.entity.DocKey.{DocKey}
 use Rattle.uni_base.specs.Cursors.{is_before, is_less, IsRanked}
 use Rattle.uni_base.specs.RankOrder.{doc_cmp}
 use Rattle.uni_base.proofs.RankedLemmas.{is_before_trans}
-use Rattle.posting_lists.proofs.Sections.{length-section}
+use Rattle.posting_lists.proofs.Sections.{length-section, section_more}
 use Rattle.layer_base.proofs.Sorted.{both, first, second, less_from}
 use Rattle.layer_stack.specs.declared.directory.Span.{Span}
 use Rattle.layer_stack.specs.declared.place.Place.{Place}
@@ -23,7 +23,6 @@ use Rattle.layer_stack.specs.Places.{term_cmp, place_cmp}
 use Rattle.layer_stack.specs.Postings.{place_of}
 use Rattle.layer_stack.specs.Runs.{span_at, Adds, AreWithin}
 use Rattle.layer_stack.specs.Spans.{spanned, tagged, delete_rows}
-use Rattle.layer_stack.proofs.Sections.{section_more}
 use Rattle.layer_stack.proofs.Order.{term_apart}
 use Rattle.layer_stack.proofs.Under.{term_self, deleted_row}
 
@@ -43,6 +42,18 @@ module _ {X : Type 0} (xs ys : List X) where
   tagged_behind tag (e ∷ runs) within =
       let here = All-head (λ (r : TermKey × Span). (r.1.from < r.1.to) × (r.1.to ≤ length xs)) e runs within in
       λ i. map (tag e.0) (spanned_behind e.1 (omega (arith, here.0)) here.1 i) ++ tagged_behind tag runs (All-tail (λ (r : TermKey × Span). (r.1.from < r.1.to) × (r.1.to ≤ length xs)) e runs within) i
+
+-- the rows of a run of all that was added
+pub tagged_run : {X Y : Type 0} (tag : TermKey → X → Y) (runs : List (TermKey × Span)) (t : TermKey) (xs ys : List X) → AreWithin (length xs) runs
+    → tagged tag (runs ++ (t, span_at (length xs) (length (xs ++ ys))) ∷ []) (xs ++ ys) ≡ tagged tag runs xs ++ map (tag t) ys
+tagged_run tag runs t xs ys within =
+    tagged_push tag runs (t, span_at (length xs) (length (xs ++ ys))) (xs ++ ys) ∙ (λ i. tagged_behind xs ys tag runs within i ++ map (tag t) (added xs ys i))
+  where
+    added : {X : Type 0} (xs ys : List X) → spanned (span_at (length xs) (length (xs ++ ys))) (xs ++ ys) ≡ ys
+    added [] ys = take_all (length ys - 0) ys (omega arith)
+    added (x ∷ xs) ys =
+        let less : length (x ∷ xs ++ ys) - length (x ∷ xs) ≡ length (xs ++ ys) - length xs = omega arith in
+        ap (λ n. take n (drop (length xs) (xs ++ ys))) less ∙ added xs ys
 
 -- ---- one row more
 

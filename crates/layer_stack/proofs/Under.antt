@@ -96,12 +96,19 @@ found_holds {X} Q t (d ∷ es) x all e =
     ] e
 
 -- the span of a term is within the rows
-pub span_within : (rows : ℕ) (t : TermKey) (spans : List (TermKey × Span)) → All (λ e. (e.1.from < e.1.to) × (e.1.to ≤ rows)) spans → IfSome (span_of t spans) (λ s. (s.from ≤ s.to) × (s.to ≤ rows))
-span_within rows t spans all = by (span_of t spans) refl
+pub span_inside : (rows : ℕ) (t : TermKey) (spans : List (TermKey × Span)) → All (λ e. (e.1.from < e.1.to) × (e.1.to ≤ rows)) spans → IfSome (span_of t spans) (λ s. (s.from < s.to) × (s.to ≤ rows))
+span_inside rows t spans all = by (span_of t spans) refl
   where
-    by : (o : Option Span) → span_of t spans ≡ o → IfSome o (λ s. (s.from ≤ s.to) × (s.to ≤ rows))
+    by : (o : Option Span) → span_of t spans ≡ o → IfSome o (λ s. (s.from < s.to) × (s.to ≤ rows))
     by None e = tt
-    by (Some s) e = let within = found_holds (λ x. (x.from < x.to) × (x.to ≤ rows)) t spans s all e in (omega (arith, within.0), within.1)
+    by (Some s) e = found_holds (λ x. (x.from < x.to) × (x.to ≤ rows)) t spans s all e
+
+pub span_within : (rows : ℕ) (t : TermKey) (spans : List (TermKey × Span)) → All (λ e. (e.1.from < e.1.to) × (e.1.to ≤ rows)) spans → IfSome (span_of t spans) (λ s. (s.from ≤ s.to) × (s.to ≤ rows))
+span_within rows t spans all = by (span_of t spans) (span_inside rows t spans all)
+  where
+    by : (o : Option Span) → IfSome o (λ s. (s.from < s.to) × (s.to ≤ rows)) → IfSome o (λ s. (s.from ≤ s.to) × (s.to ≤ rows))
+    by None inside = tt
+    by (Some s) inside = (omega (arith, inside.0), inside.1)
 
 -- ---- what a layer has under a term
 

@@ -1,6 +1,7 @@
 -- What the oldest layers of a stack put together, term by term.
-use Rattle.std.specs.Prelude.{◌≡◌, Bool, false, List, [], ◌∷◌}
+use Rattle.std.specs.Prelude.{◌≡◌, T, Bool, false, List, [], ◌∷◌}
 use Rattle.std.specs.List.{list_any}
+use Rattle.std.specs.FinMap.{is_sorted}
 use Rattle.layer_base.specs.Among as among
 use Rattle.posting_lists.specs.declared.posting.Posting.{Posting}
 use Rattle.layer_stack.specs.declared.directory.Span.{Span}
@@ -18,9 +19,10 @@ is_among = among.is_among term_cmp
 abbrev pub is_changed : TermKey → List PostingChanges → Bool
 is_changed term layers = list_any (has_term term) layers
 
--- the terms under which layers delete or put, in order
-abbrev pub AreChanged : List PostingChanges → List (TermKey × Unit {0}) → Type 0
-AreChanged layers terms = among.AreExactly term_cmp (λ term. is_changed term layers) terms
+-- terms in order, such that the layers delete and put under no other one
+pub record AreChanged (layers : List PostingChanges) (terms : List (TermKey × Unit {0})) : Type 0 where
+  pub sorted : T (is_sorted term_cmp terms)
+  pub others : (term : TermKey) → is_among term terms ≡ false → is_changed term layers ≡ false
 
 -- with the postings put that a table has under some terms
 abbrev pub putting_terms : PostingTable → List (TermKey × Unit {0}) → PostingChanges → PostingChanges

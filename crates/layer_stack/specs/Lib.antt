@@ -7,6 +7,7 @@ pub mod Stacks
 pub mod Words
 pub mod Sources
 pub mod Combined
+pub mod Based
 pub mod Readers
 pub mod ShortTerms
 pub mod TermOrder

@@ -3,6 +3,7 @@ ghost use Rattle.layer_stack.specs.Spans.{spanned};
 ghost use Rattle.layer_stack.specs.Runs.{AreWithin, AreArranged, left_of, numbered, span_at};
 
 use crate::directory::{Span, is_same};
+use crate::runs::add_run;
 use crate::short_term::ShortTerm;
 use layer_base::keep_last_words;
 use std::alloc::{AllocError, Global};
@@ -62,7 +63,7 @@ fn add_term(
     let from = arrangement.rows.len();
     arrangement.rows.append(group)?;
     let to = arrangement.rows.len();
-    note(&mut arrangement.spans, term, Span { from, to })
+    add_run(&mut arrangement.spans, term, Span { from, to })
 }
 
 // Adds the numbered keys of a span.
@@ -77,13 +78,5 @@ fn add_numbers(
     for i in span.from..span.to {
         group.push((keys[i], i))?;
     }
-    Ok(())
-}
-
-fn note(spans: &mut Vec<(ShortTerm, Span)>, term: &ShortTerm, span: Span) -> Result<(), AllocError>
-    ensures { OnOk result (spans.new.items ≡ spans.old.items ++ (term.now, span) ∷ []) }
-{
-    let term = term.copy(*spans.allocator())?;
-    spans.push((term, span))?;
     Ok(())
 }

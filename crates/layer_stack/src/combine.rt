@@ -7,11 +7,12 @@ ghost use Rattle.layer_base.specs.Layers.{stack_table};
 ghost use Rattle.layer_stack.specs.Places.{term_cmp};
 ghost use Rattle.layer_stack.specs.Postings.{putting_all, putting_list};
 ghost use Rattle.layer_stack.specs.Directories.{put_spans};
-ghost use Rattle.layer_stack.specs.Spans.{spanned, told, IsSpans};
+ghost use Rattle.layer_stack.specs.Spans.{told, IsSpans};
 ghost use Rattle.layer_stack.specs.Combined.{AreChanged, is_among, StandsAlone};
 
 use crate::directory::{Directory, Span};
 use crate::front::FrontReader;
+use crate::short_term::ShortTerm;
 use crate::term_spans::puts_in;
 use crate::{Delta, Stack, TermKey};
 use layer_base::{first_after, last_words, look_up_near};
@@ -73,7 +74,7 @@ pub(crate) fn combined(
         let to = first_after(changed, at, &whole);
         front.put_terms(&mut delta, &changed[at..to])?;
         let span = puts_in(Some(*spans));
-        put_unchanged(&mut delta, changed, at, &whole, postings, span)?;
+        put_unchanged(&mut delta, changed, at, term, &whole, postings, span)?;
         at = to;
     }
     front.put_terms(&mut delta, &changed[at..changed.len()])?;
@@ -81,40 +82,26 @@ pub(crate) fn combined(
 }
 
 // Puts the postings of a span, if there is one, unless their term is among the changed ones, where
-// the search for it begins at a hint.
+// the search for it begins at a hint. The term comes in both its forms.
 fn put_unchanged(
     delta: &mut Delta,
     changed: &[(TermKey, ())],
     mut hint: usize,
-    term: &TermKey,
+    term: &ShortTerm,
+    whole: &TermKey,
     postings: &PostingColumns,
     span: Option<Span>,
 ) -> Result<(), AllocError>
     requires sorted { T (is_sorted term_cmp changed.now) }
-    requires within { IfSome span (λ s. (s.from ≤ s.to) × (s.to ≤ length postings.now)) }
+    requires same { whole.now ≡ term.now }
+    requires within { IfSome span (λ s. (s.from < s.to) × (s.to ≤ length postings.now)) }
     ensures { OnOk result (delta.new ≡ cond (is_among term.now changed.now) delta.old (putting_list term.now (told span postings.now) delta.old)) }
 {
     let Some(span) = span else {
         return Ok(());
     };
-    if look_up_near(changed, &mut hint, term).is_some() {
+    if look_up_near(changed, &mut hint, whole).is_some() {
         return Ok(());
     }
-    put_span(delta, term, postings, span)
-}
-
-// Puts the postings of a span.
-fn put_span(
-    delta: &mut Delta,
-    term: &TermKey,
-    postings: &PostingColumns,
-    span: Span,
-) -> Result<(), AllocError>
-    requires { (span.from ≤ span.to) × (span.to ≤ length postings.now) }
-    ensures { OnOk result (delta.new ≡ putting_list term.now (spanned span postings.now) delta.old) }
-{
-    for i in span.from..span.to {
-        delta.put(*term, postings.posting(i))?;
-    }
-    Ok(())
+    delta.put_run(term, postings, span)
 }

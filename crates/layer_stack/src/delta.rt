@@ -1,9 +1,10 @@
-ghost use Rattle.std.specs.Prelude.{◌≡◌, IfOk, OnOk, OnErr};
-ghost use Rattle.layer_stack.specs.Postings.{no_changes, deleting, putting, place_of};
+ghost use Rattle.std.specs.Prelude.{◌≡◌, ◌<◌, ◌≤◌, IfOk, OnOk, OnErr, length};
+ghost use Rattle.layer_stack.specs.Postings.{no_changes, deleting, putting, putting_list, place_of};
+ghost use Rattle.layer_stack.specs.Spans.{spanned};
 
 use crate::TermKey;
 use crate::directory::Span;
-use crate::runs::note_row;
+use crate::runs::{add_run, note_row};
 use crate::short_term::ShortTerm;
 use posting_lists::{Posting, PostingColumns};
 use std::alloc::{AllocError, Global};
@@ -91,5 +92,21 @@ impl Delta {
         }
         self.postings.push(posting)?;
         note_row(&mut self.puts, &term, at)
+    }
+
+    // Puts the postings of a span of columns under a term, as a run of their own.
+    pub(crate) fn put_run(
+        &mut self,
+        term: &ShortTerm,
+        postings: &PostingColumns,
+        span: Span,
+    ) -> Result<(), AllocError>
+        requires { (span.from < span.to) × (span.to ≤ length postings.now) }
+        ensures { OnOk result (self.new ≡ putting_list term.now (spanned span postings.now) self.old) }
+    {
+        let from = self.postings.len();
+        self.postings.append(postings, span.from, span.to)?;
+        let to = self.postings.len();
+        add_run(&mut self.puts, term, Span { from, to })
     }
 }

@@ -1,54 +1,59 @@
-ghost use Rattle.std.specs.Prelude.{◌≡◌, ◌<◌, ◌≤◌, ◌+◌, ◌^◌, ◌||◌, [], Some, take, length, IfOk, IfSome, OnOk};
+ghost use Rattle.std.specs.Prelude.{◌≡◌, ◌<◌, ◌≤◌, ◌+◌, ◌^◌, false, [], Some, take, length, IfOk, OnOk};
 ghost use Rattle.std.specs.List.{slice_get};
-ghost use Rattle.posting_lists.specs.Postings.{keys_of, section};
-ghost use Rattle.uni_base.specs.Cursors.{IsRanked};
+ghost use Rattle.posting_lists.specs.Postings.{section};
 ghost use Rattle.layer_base.specs.Layers.{stack_table};
+ghost use Rattle.std.specs.FinMap as finite;
+ghost use Rattle.layer_stack.specs.Based.{IsBased, laid_over};
 ghost use Rattle.layer_stack.specs.Combined.{AreChanged, is_among};
 ghost use Rattle.layer_stack.specs.Postings.{postings_of, deletes_of, entries_of, putting_all};
-ghost use Rattle.layer_stack.specs.Spans.{told};
 ghost use Rattle.layer_stack.specs.Words.{has_term, IsWordFrom};
 
-use crate::combine::{Changed, combined};
-use crate::directory::{Directory, Span, keys_at};
-use crate::part::Part;
+use crate::combine::Changed;
+use crate::part::{Part, over_base};
+use crate::patch::merged;
 use crate::reader::LayerReader;
-use crate::settle::{settle_keys, settle_postings};
-use crate::term_spans::{deletes_in, puts_in};
+use crate::rows::Rows;
+use crate::words::earlier;
 use crate::{Delta, Stack, TermKey};
-use posting_lists::{ListCursor, PostingColumns};
+use layer_base::last_words;
 use std::alloc::{AllocError, Global};
 use std::marker::Model;
+use std::sync::Arc;
 use std::sync::ledger::Ledger;
-use uni_base::{DocKey, Steps, Word};
+use uni_base::{Steps, Word};
 
-/// How many deletes, and how many puts, a layer has at most.
-const MOST_ROWS: usize = u32::MAX as usize;
-
-/// A layer of a stack of postings: the postings that it deletes, and those that it puts. The
-/// postings of all terms lie in one row of columns, and so do the deleted keys.
+/// A layer of a stack of postings: the postings that it deletes, and those that it puts. A merged
+/// layer may share most of its postings with the one that it is made of: it has rows of its own
+/// under the terms that changed since, and a base under all others.
 #[derive(Drop)]
 pub struct Layer {
-    directory: Directory,
-    postings: PostingColumns,
-    deleted: Vec<DocKey>,
+    rows: Arc<Rows>,
+    base: Option<Base>,
+}
+
+/// What stands under the terms that a layer's own rows leave alone.
+#[derive(Drop)]
+pub(crate) struct Base {
+    rows: Arc<Rows>,
+    // How many postings the layer has, with its own.
+    count: usize,
 }
 
 impl Model for Layer {
-    ghost use Rattle.std.specs.Prelude.{length};
+    ghost use Rattle.std.specs.Prelude.{IfSome};
+    ghost use Rattle.std.specs.Option.{option_map};
     ghost use Rattle.std.specs.Coded.{codes};
     ghost use Rattle.std.specs.FinMap as finite;
-    ghost use Rattle.layer_stack.specs.Places.{place_cmp};
+    ghost use Rattle.layer_stack.specs.Based.{IsBased, layer_of};
     ghost use Rattle.layer_stack.specs.Postings.{PostingChanges};
-    ghost use Rattle.layer_stack.specs.Spans.{put_rows, delete_rows, AreLaid};
-    ghost use Rattle.layer_stack.specs.Directories.{put_spans, delete_spans};
 
     ghost Value = { PostingChanges };
 
     ghost coded = { Prim.hlevel (codes, finite.code) };
 
-    ghost view = { λ l. record { deletes = finite.from_sorted (delete_rows (delete_spans l.directory) l.deleted.items); puts = finite.from_sorted (put_rows (put_spans l.directory) l.postings) } };
+    ghost view = { λ l. layer_of l.rows.value (option_map (λ b. b.rows.value) l.base) };
 
-    ghost invariant = { λ l. AreLaid (put_rows (put_spans l.directory) l.postings) (put_spans l.directory) (length l.postings) × AreLaid (delete_rows (delete_spans l.directory) l.deleted.items) (delete_spans l.directory) (length l.deleted.items) };
+    ghost invariant = { λ l. IfSome l.base (λ b. IsBased l.rows.value b.rows.value b.count) };
 }
 
 impl Layer {
@@ -56,22 +61,22 @@ impl Layer {
     pub fn build(alloc: Global, delta: Delta) -> Result<Layer, AllocError>
         ensures { IfOk result (λ layer. layer ≡ delta) }
     {
-        let Delta {
-            deletes,
-            deleted,
-            puts,
-            postings,
-        } = delta;
-        let (puts, postings) = settle_postings(alloc, puts, postings)?;
-        let (deletes, deleted) = settle_keys(alloc, deletes, deleted)?;
-        if postings.len() > MOST_ROWS || deleted.len() > MOST_ROWS {
-            return Err(AllocError);
+        let rows = Rows::build(alloc, delta)?;
+        let rows = Arc::new(alloc, rows)?;
+        Ok(Layer { rows, base: None })
+    }
+
+    // The layer of rows over a base, of whose postings so many are under the terms that the rows leave
+    // alone.
+    pub(crate) fn over(rows: Arc<Rows>, base: Arc<Rows>, left: usize) -> Layer
+        requires { IsBased rows.value base.value (left + finite.len rows.value.puts) }
+        ensures { result ≡ putting_all (laid_over base.value.puts rows.value) }
+    {
+        let count = left + rows.puts();
+        Layer {
+            rows,
+            base: Some(Base { rows: base, count }),
         }
-        Ok(Layer {
-            directory: Directory::of(alloc, &puts, &deletes)?,
-            postings,
-            deleted,
-        })
     }
 
     /// The number of its deletes and puts.
@@ -79,7 +84,10 @@ impl Layer {
         ensures entries { result ≡ entries_of self.now }
         ensures few { result ≤ 2 ^ 62 }
     {
-        self.postings.len() as u64 + self.deleted.len() as u64
+        match &self.base {
+            Some(base) => base.count as u64,
+            None => self.rows.entries(),
+        }
     }
 
     /// The least word, from a given one on and past it where `strict`, at which the layer has a
@@ -96,73 +104,75 @@ impl Layer {
         ensures counted { steps.new ≡ steps.old + 1 }
     {
         steps.tick();
-        self.directory.word_from(type_no, from, strict)
+        let word = self.rows.word_from(type_no, from, strict);
+        match &self.base {
+            Some(base) => earlier(word, base.rows.word_from(type_no, from, strict)),
+            None => word,
+        }
     }
 
     // What it deletes and puts under a term.
     pub(crate) fn part(&self, term: &TermKey) -> Part<'_>
         ensures { result ≡ (deletes_of term.now self.now, postings_of term.now self.now.puts) }
     {
-        let found = self.directory.spans(term);
-        let deletes = keys_at(&self.deleted, deletes_in(found));
-        let puts = list_at(&self.postings, puts_in(found));
-        Part::new(deletes, puts)
+        let part = self.rows.part(term);
+        match &self.base {
+            Some(base) => over_base(part, &base.rows, term),
+            None => part,
+        }
     }
 
     // How many postings stand where the layer lies over so many, and each of its deletes is of one that stands.
     pub(crate) fn rows_over(&self, rows: usize) -> usize {
-        rows.saturating_add(self.postings.len())
-            .saturating_sub(self.deleted.len())
+        match &self.base {
+            Some(base) => rows.saturating_add(base.count),
+            None => self.rows.rows_over(rows),
+        }
     }
 
     // A reader of what it has under one term after another.
     pub(crate) fn reader(&self) -> LayerReader<'_>
         ensures { result ≡ (self.now, []) }
     {
-        LayerReader::over(&self.directory, &self.postings, &self.deleted)
+        match &self.base {
+            Some(base) => LayerReader::over(&self.rows, Some(&base.rows)),
+            None => LayerReader::over(&self.rows, None),
+        }
     }
 
-    // Adds the terms at which it deletes or puts to a list.
+    // Adds the terms at which it deletes or puts to a list, and maybe others.
     pub(crate) fn note_terms(&self, terms: &mut Vec<(TermKey, ())>) -> Result<(), AllocError>
-        ensures { OnOk result ((t : TermKey) → is_among t terms.new.items ≡ (is_among t terms.old.items || has_term t self.now)) }
+        ensures { OnOk result ((t : TermKey) → is_among t terms.new.items ≡ false → (is_among t terms.old.items ≡ false) × (has_term t self.now ≡ false)) }
     {
-        self.directory.note_terms(terms)
+        self.rows.note_terms(terms)?;
+        if let Some(base) = &self.base {
+            base.rows.note_terms(terms)?;
+        }
+        Ok(())
     }
 
-    // Puts what the first layers of a stack stand for, of which this is the oldest one. What is changed
-    // is what the newer ones of them change.
+    // What the first layers of a stack stand for, of which this is the oldest one, as one layer. What is
+    // changed is what the newer ones of them change.
     pub(crate) fn combined(
         &self,
         alloc: Global,
         stack: &Stack,
         count: usize,
-        changed: &Changed,
-    ) -> Result<Delta, AllocError>
+        changed: Changed,
+    ) -> Result<Layer, AllocError>
         requires oldest { slice_get stack.now.0 0 ≡ Some self.now }
         requires count { (0 < count) × (count ≤ length stack.now.0) }
-        requires changed { AreChanged (section 1 count stack.now.0) changed.now.terms.items }
-        ensures { IfOk result (λ delta. delta ≡ putting_all (stack_table (take count stack.now.0))) }
+        requires changed { AreChanged (section 1 count stack.now.0) changed.terms.items }
+        ensures { IfOk result (λ layer. layer ≡ putting_all (stack_table (take count stack.now.0))) }
     {
-        combined(
-            alloc,
-            stack,
-            count,
-            &changed.terms,
-            changed.rows,
-            &self.directory,
-            &self.postings,
-        )
-    }
-}
-
-// The list that a span tells of columns, empty where there is no span.
-pub(crate) fn list_at(postings: &PostingColumns, span: Option<Span>) -> ListCursor<'_>
-    requires within { IfSome span (λ s. (s.from ≤ s.to) × (s.to ≤ length postings.now)) }
-    requires ranked { IsRanked (keys_of (told span postings.now)) }
-    ensures { result ≡ told span postings.now }
-{
-    match span {
-        Some(span) => postings.section(span.from, span.to),
-        None => postings.section(0, 0),
+        let Changed { mut terms, rows } = changed;
+        match &self.base {
+            Some(base) => {
+                self.rows.note_terms(&mut terms)?;
+                let terms = last_words(terms)?;
+                merged(alloc, stack, count, &terms, rows, &base.rows)
+            }
+            None => merged(alloc, stack, count, &terms, rows, &self.rows),
+        }
     }
 }

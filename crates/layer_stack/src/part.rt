@@ -1,4 +1,4 @@
-ghost use Rattle.std.specs.Prelude.{◌≡◌, ◌==◌, ◌&&◌, length, cond, None, not, map};
+ghost use Rattle.std.specs.Prelude.{◌≡◌, ◌==◌, ◌&&◌, length, [], cond, None, not, map};
 ghost use Rattle.uni_base.specs.Cursors.{IsRanked, is_before, is_less};
 ghost use Rattle.uni_base.specs.RankOrder.{doc_cmp};
 ghost use Rattle.uni_base.specs.KeySets.{has_key};
@@ -6,8 +6,11 @@ ghost use Rattle.std.specs.FinMap.{find};
 ghost use Rattle.std.specs.Ordering.{is_eq};
 ghost use Rattle.posting_lists.specs.Postings.{keys_of};
 ghost use Rattle.layer_base.specs.Lookups.{either};
-ghost use Rattle.layer_stack.specs.Stacks.{StandsFrom, part_where, stands_at, entry_of, head_of, lesser};
+ghost use Rattle.layer_stack.specs.Postings.{postings_of};
+ghost use Rattle.layer_stack.specs.Stacks.{StandsFrom, has_nothing, part_where, stands_at, entry_of, head_of, lesser};
 
+use crate::TermKey;
+use crate::rows::Rows;
 use posting_lists::ListCursor;
 use std::marker::Model;
 use uni_base::{Audience, DocCursor, DocKey};
@@ -53,6 +56,16 @@ impl<'a> Part<'a> {
         self.puts
     }
 
+    // Its postings, with nothing deleted.
+    fn puts_alone(self) -> Part<'a>
+        ensures { result ≡ ([], self.entry.1) }
+    {
+        Part {
+            deletes: &[],
+            puts: self.puts,
+        }
+    }
+
     // The key of the first posting.
     pub(crate) fn head(&self) -> Option<DocKey>
         ensures head { result ≡ head_of self.now }
@@ -94,6 +107,19 @@ impl<'a> Part<'a> {
     {
         self.puts.seek(from);
     }
+}
+
+// What a layer puts under a term, given what its own rows have there: what they put, or, where they have
+// nothing, what its base puts.
+pub(crate) fn over_base<'a>(part: Part<'a>, base: &'a Rows, term: &TermKey) -> Part<'a>
+    ensures { result ≡ ([], cond (has_nothing part.entry) (postings_of term.now base.now.puts) part.entry.1) }
+{
+    let part = if part.is_empty() {
+        base.part(term)
+    } else {
+        part
+    };
+    part.puts_alone()
 }
 
 // Whether keys in rank order have a key, which it finds by halving.

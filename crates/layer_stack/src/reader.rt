@@ -1,67 +1,49 @@
-ghost use Rattle.std.specs.Prelude.{◌≡◌, [], length, OnOk};
-ghost use Rattle.std.specs.FinMap as finite;
-ghost use Rattle.layer_stack.specs.Directories.{put_spans, delete_spans};
-ghost use Rattle.layer_stack.specs.Postings.{changes_of, postings_of, deletes_of};
+ghost use Rattle.std.specs.Prelude.{◌≡◌, [], OnOk};
+ghost use Rattle.std.specs.Option.{option_map};
+ghost use Rattle.layer_stack.specs.Based.{layer_of};
+ghost use Rattle.layer_stack.specs.Postings.{postings_of, deletes_of};
 ghost use Rattle.layer_stack.specs.Readers.{AreBefore};
-ghost use Rattle.layer_stack.specs.Spans.{put_rows, delete_rows, AreLaid};
 ghost use Rattle.layer_stack.specs.Stacks.{and_part};
 
 use crate::TermKey;
-use crate::directory::{Directory, keys_at};
-use crate::layer::list_at;
-use crate::part::Part;
+use crate::part::{Part, over_base};
 use crate::parts::add_part;
-use crate::term_spans::{deletes_in, puts_in};
-use posting_lists::PostingColumns;
+use crate::rows::Rows;
+use crate::rows_reader::RowsReader;
 use std::alloc::AllocError;
 use std::marker::Model;
-use uni_base::DocKey;
 
 /// What a layer has under one term after another. The terms are asked for in their order, so that
-/// no term is searched for: the reader goes along the directory.
+/// in its own rows no term is searched for.
 #[derive(Drop)]
 pub(crate) struct LayerReader<'a> {
-    directory: &'a Directory,
-    postings: &'a PostingColumns,
-    deleted: &'a [DocKey],
-    // How many terms are passed.
-    at: usize,
+    rows: RowsReader<'a>,
+    // What stands under the terms that the rows leave alone.
+    base: Option<&'a Rows>,
 }
 
 impl<'a> Model for LayerReader<'a> {
-    ghost use Rattle.std.specs.Prelude.{length, take};
+    ghost use Rattle.std.specs.Option.{option_map};
     ghost use Rattle.std.specs.Coded.{codes};
     ghost use Rattle.std.specs.FinMap as finite;
-    ghost use Rattle.layer_stack.specs.Directories.{put_spans, delete_spans};
-    ghost use Rattle.layer_stack.specs.Postings.{changes_of};
+    ghost use Rattle.layer_stack.specs.Based.{layer_of};
     ghost use Rattle.layer_stack.specs.Readers.{ReaderValue};
-    ghost use Rattle.layer_stack.specs.Spans.{put_rows, delete_rows, AreLaid};
 
     ghost Value = { ReaderValue };
 
     ghost coded = { Prim.hlevel (codes, finite.code) };
 
-    ghost view = { λ r. (changes_of (finite.from_sorted (delete_rows (delete_spans r.directory.now) r.deleted.now)) (finite.from_sorted (put_rows (put_spans r.directory.now) r.postings.now)), take r.at r.directory.now) };
-
-    ghost invariant = { λ r. AreLaid (put_rows (put_spans r.directory.now) r.postings.now) (put_spans r.directory.now) (length r.postings.now) × AreLaid (delete_rows (delete_spans r.directory.now) r.deleted.now) (delete_spans r.directory.now) (length r.deleted.now) };
+    ghost view = { λ r. (layer_of r.rows.0 (option_map (λ b. b.now) r.base), r.rows.1) };
 }
 
 impl<'a> LayerReader<'a> {
-    // A reader of postings and deleted keys, which a directory tells.
-    pub(crate) fn over(
-        directory: &'a Directory,
-        postings: &'a PostingColumns,
-        deleted: &'a [DocKey],
-    ) -> LayerReader<'a>
-        requires put { AreLaid (put_rows (put_spans directory.now) postings.now) (put_spans directory.now) (length postings.now) }
-        requires deleted { AreLaid (delete_rows (delete_spans directory.now) deleted.now) (delete_spans directory.now) (length deleted.now) }
-        ensures { result ≡ (changes_of (finite.from_sorted (delete_rows (delete_spans directory.now) deleted.now)) (finite.from_sorted (put_rows (put_spans directory.now) postings.now)), []) }
+    // A reader of rows that lie over a base, if there is one.
+    pub(crate) fn over(rows: &'a Rows, base: Option<&'a Rows>) -> LayerReader<'a>
+        ensures { result ≡ (layer_of rows.now (option_map (λ b. b.now) base.entry), []) }
     {
         LayerReader {
-            directory,
-            postings,
-            deleted,
-            at: 0,
+            rows: rows.reader(),
+            base,
         }
     }
 
@@ -69,7 +51,7 @@ impl<'a> LayerReader<'a> {
     pub(crate) fn restart(&mut self)
         ensures { self.new ≡ (self.old.0, []) }
     {
-        self.at = 0;
+        self.rows.restart();
     }
 
     // Adds what the layer has under a term, if it has anything, and passes the terms before it.
@@ -83,12 +65,11 @@ impl<'a> LayerReader<'a> {
         ensures same { self.new.0 ≡ self.old.0 }
         ensures passed { AreBefore term.now self.new.1 }
     {
-        let found = self.directory.spans_from(&mut self.at, term);
-        if found.is_none() {
-            return Ok(());
-        }
-        let keys = keys_at(self.deleted, deletes_in(found));
-        let list = list_at(self.postings, puts_in(found));
-        add_part(parts, Part::new(keys, list))
+        let part = self.rows.part(term);
+        let part = match self.base {
+            Some(base) => over_base(part, base, term),
+            None => part,
+        };
+        add_part(parts, part)
     }
 }

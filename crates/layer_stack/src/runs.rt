@@ -29,6 +29,20 @@ pub(crate) fn note_row(
     begin_run(runs, term.type_no, term.key, at)
 }
 
+// Adds a run of a term.
+pub(crate) fn add_run(
+    runs: &mut Vec<(ShortTerm, Span)>,
+    term: &ShortTerm,
+    span: Span,
+) -> Result<(), AllocError>
+    ensures ok { OnOk result (runs.new.items ≡ runs.old.items ++ (term.now, span) ∷ []) }
+    ensures err { OnErr result (runs.new.items ≡ runs.old.items) }
+{
+    let term = term.copy(*runs.allocator())?;
+    runs.push((term, span))?;
+    Ok(())
+}
+
 // Begins a run with the row at a place.
 fn begin_run(
     runs: &mut Vec<(ShortTerm, Span)>,

@@ -108,7 +108,6 @@ impl Stack {
             return Layer::build(alloc, Delta::new(alloc));
         }
         let changed = Changed::of(alloc, self, count)?;
-        let delta = self.layer(0).combined(alloc, self, count, &changed)?;
-        Layer::build(alloc, delta)
+        self.layer(0).combined(alloc, self, count, changed)
     }
 }

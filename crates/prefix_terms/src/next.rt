@@ -1,22 +1,11 @@
 ghost use Rattle.std.specs.Prelude.{◌≡◌, ◌+◌, length, false};
-ghost use Rattle.layer_stack.specs.Spans.{earlier};
 ghost use Rattle.layer_stack.specs.Words.{IsWordFrom, is_word_before};
 ghost use Rattle.uni_meaning.specs.Prefixes.{begins_with};
 ghost use Rattle.prefix_terms.specs.Occurring.{occurs_in, occurs_so};
 
-use layer_stack::Stack;
+use layer_stack::{Stack, earlier};
 use std::sync::ledger::Ledger;
 use uni_base::{Steps, Word};
-
-// The lesser of two words that may be missing.
-fn earlier(first: Option<Word>, second: Option<Word>) -> Option<Word>
-    ensures { result ≡ earlier first second }
-{
-    match (first, second) {
-        (None, word) | (word, None) => word,
-        (Some(first), Some(second)) => Some(if second < first { second } else { first }),
-    }
-}
 
 // The least word, from a given one on and past it where `strict`, at which some layer has
 // something of the type. Each layer is asked once.

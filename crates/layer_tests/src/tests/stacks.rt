@@ -330,3 +330,104 @@ fn words_from_a_word_on(rt: HostRuntime) -> Result<(), Fail> {
     assert!(rt; wrong_row(&layer).is_none() && layer.entries() == 10);
     Ok(())
 }
+
+/// How many terms a wide layer has, of one posting each, beside the two that change.
+const WIDE: u64 = 200;
+
+fn wide_layer(alloc: Global) -> Option<Layer> {
+    let mut delta = Delta::new(alloc);
+    for n in 0..WIDE {
+        let term = term(n.saturating_add(10))?;
+        note(&mut delta, term, key(0)?, Some(Audience::Public))?;
+    }
+    Layer::build(alloc, delta).ok()
+}
+
+// A stack with one more layer, as one layer.
+fn merged_with(alloc: Global, stack: &Stack, layer: Layer) -> Option<Stack> {
+    let next = with_layer(alloc, stack, layer)?;
+    let layer = next.combined(alloc, next.layers()).ok()?;
+    stack_of(alloc, layer)
+}
+
+// How many entries the layers of a stack have.
+fn entries(stack: &Stack) -> u64 {
+    let mut entries = 0_u64;
+    for i in 0..stack.layers() {
+        entries = entries.saturating_add(stack.layer(i).entries());
+    }
+    entries
+}
+
+// How many postings there are, with those of a wide layer.
+fn count(folded: &Folded) -> u64 {
+    let mut count = WIDE;
+    for audience in folded {
+        if audience.is_some() {
+            count = count.saturating_add(1);
+        }
+    }
+    count
+}
+
+// Whether the word's term has a posting.
+fn has_word(folded: &Folded) -> bool {
+    for place in 0..8usize {
+        if folded[place].is_some() {
+            return true;
+        }
+    }
+    false
+}
+
+// Whether each layer of a stack has the word exactly where it is wanted.
+fn have_word(stack: &Stack, is_wanted: bool) -> Option<bool> {
+    let want: &[u8] = if is_wanted { b"hiking" } else { b"" };
+    for i in 0..stack.layers() {
+        if !is_least(stack.layer(i), 3, b"a", false, want)? {
+            return Some(false);
+        }
+    }
+    Some(true)
+}
+
+// Whether the first and the last term of a wide layer have their posting.
+fn has_wide_terms(stack: &Stack) -> Option<bool> {
+    let key = key(0)?;
+    let first = stack.find(&term(10)?, key);
+    let last = stack.find(&term(WIDE.saturating_add(9))?, key);
+    Some(first == Some(Audience::Public) && last == first)
+}
+
+// Whether a merged stack is read as it is folded, and has as many entries as there are postings.
+fn is_merged_read(alloc: Global, stack: &Stack, folded: &Folded) -> Option<bool> {
+    let are_read = are_terms_read(alloc, stack, folded)? && has_wide_terms(stack)?;
+    Some(are_read && have_word(stack, has_word(folded))? && entries(stack) == count(folded))
+}
+
+// Whether layers that are merged six times over, each with one of noise, are read as they are folded.
+fn are_merged_read(alloc: Global, case: u64) -> Option<bool> {
+    let mut noise = Noise { state: case };
+    let mut folded = [None; PLACES];
+    let mut stack = stack_of(alloc, wide_layer(alloc)?)?;
+    for _ in 0..6 {
+        let layer = noisy_layer(alloc, &mut noise, &mut folded)?;
+        stack = merged_with(alloc, &stack, layer)?;
+        if !is_merged_read(alloc, &stack, &folded)? {
+            return Some(false);
+        }
+    }
+    Some(true)
+}
+
+// A layer that is merged of few changes and of a wide layer shares what did not change, over and over.
+#[test]
+fn merged_layers_are_read_like_a_table(rt: HostRuntime) -> Result<(), Fail> {
+    for case in 0..100u64 {
+        assert!(rt;
+            are_merged_read(rt.alloc(), case) == Some(true),
+            "case {case}"
+        );
+    }
+    Ok(())
+}

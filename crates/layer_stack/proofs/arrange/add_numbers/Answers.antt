@@ -1,8 +1,8 @@
 use Rattle.std.proofs.Common.{rules, arith, ◌≡◌, ◌<◌, ◌+◌, ◌++◌, ◌∷◌, [], length, slice_get, Some, refl, ap, ◌∙◌, sym, append_assoc}
 use Rattle.std.proofs.lemmas.Option.{slice_get_read}
 use Rattle.posting_lists.specs.Postings.{section}
+use Rattle.posting_lists.proofs.Sections.{section_more}
 use Rattle.layer_stack.specs.Runs.{numbered}
-use Rattle.layer_stack.proofs.Sections.{section_more}
 use Rattle.layer_stack.proofs.Settled.{numbered_at}
 use Rattle.layer_stack.proofs.arrange.add_numbers.Goals as goal
 

@@ -1,4 +1,4 @@
-use Rattle.std.proofs.Common.{rules, arith, ◌≡◌, ◌≤◌, ◌++◌, ◌∷◌, [], List, IfSome, cond, false, length, map, take, refl, ap, ◌∙◌, sym, subst}
+use Rattle.std.proofs.Common.{rules, arith, ◌≡◌, ◌<◌, ◌≤◌, ◌++◌, ◌∷◌, [], List, IfSome, cond, false, length, map, take, refl, ap, ◌∙◌, sym, subst}
 use Rattle.std.specs.Map.Iter.{deref_pair}
 use Rattle.std.proofs.lemmas.List.{map-append, take_all}
 use Rattle.std.proofs.lemmas.Iterator.Consumers.{YieldsList-from_rest, YieldsList-turn, YieldsList-end}
@@ -14,7 +14,7 @@ use Rattle.layer_stack.specs.Spans.{told}
 use Rattle.layer_base.proofs.Among.{is_done}
 use Rattle.layer_stack.proofs.Combined.{Has, done_start, done_terms, done_span, all_done}
 use Rattle.layer_stack.proofs.Directories.{found_at}
-use Rattle.layer_stack.proofs.Under.{span_within}
+use Rattle.layer_stack.proofs.Under.{span_inside}
 use Rattle.layer_stack.proofs.combine.combined.Goals as goal
 
 pub loop-term-init : goal.loop-term-init
@@ -33,7 +33,7 @@ put_unchanged-requires-clause-within c =
     let turn = YieldsList-turn road c.loop-term.yielded c.loop-term.term-iterator c.loop-term.yielded_by _ c.next.new.self (c.in-Some.term, c.in-Some.spans) c.in-Some.is c.next.ensures.steps in
     let e : TermKey × TermSpans = (c.in-Some.term.now, c.in-Some.spans.now) in
     let found = c.puts_in-span.ensures ∙ found_at puts_in refl c.args.directory.now (length c.loop-term.yielded) e c.iter-term-items.ensures.is.sorted turn.0 turn.1 in
-    subst (λ o. IfSome o (λ s. (s.from ≤ s.to) × (s.to ≤ length c.args.postings.now))) (sym found) (span_within (length c.args.postings.now) e.0 (put_spans c.args.directory.now) c.requires.spans.within)
+    subst (λ o. IfSome o (λ s. (s.from < s.to) × (s.to ≤ length c.args.postings.now))) (sym found) (span_inside (length c.args.postings.now) e.0 (put_spans c.args.directory.now) c.requires.spans.within)
 
 pub loop-term-preserved : goal.loop-term-preserved
 loop-term-preserved c =
@@ -53,7 +53,7 @@ loop-term-preserved c =
     record {
       within = c.first_after-to.ensures.within.1;
       front = c.put_terms.ensures.same ∙ c.loop-term.invariant.front;
-      has = subst (λ (d : PostingChanges). Has table (is_done term_cmp changed to (map deref_pair (c.loop-term.yielded ++ (c.in-Some.term, c.in-Some.spans) ∷ []))) d) (sym (c.in_ok-put_unchanged.ensures {u = tt} ∙ ap (λ (t : TermKey). cond (is_among t changed) c1 (putting_list t own c1)) c.term-whole.ensures))
+      has = subst (λ (d : PostingChanges). Has table (is_done term_cmp changed to (map deref_pair (c.loop-term.yielded ++ (c.in-Some.term, c.in-Some.spans) ∷ []))) d) (sym (c.in_ok-put_unchanged.ensures {u = tt}))
           (subst (λ (ss : List (TermKey × TermSpans)). Has table (is_done term_cmp changed to ss) (cond (is_among e.0 changed) c1 (putting_list e.0 own c1))) more
           (done_span table changed to rows e own c1 alone has));
     }

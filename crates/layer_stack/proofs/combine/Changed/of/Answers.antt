@@ -1,4 +1,4 @@
-use Rattle.std.proofs.Common.{rules, arith, ◌≡◌, ◌||◌, T, List, ap, ◌∙◌, sym, subst}
+use Rattle.std.proofs.Common.{rules, arith, ◌≡◌, T, List, ap, ◌∙◌, sym, subst}
 use Rattle.std.specs.FinMap as finite
 use Rattle.std.specs.FinMap.{is_sorted}
 use Rattle.posting_lists.specs.Postings.{section}
@@ -13,11 +13,11 @@ use Rattle.layer_stack.proofs.Order.{term_apart, term_total}
 use Rattle.layer_stack.proofs.combine.Changed.of.Goals as goal
 
 pub loop-i-preserved : goal.loop-i-preserved
-loop-i-preserved c t =
+loop-i-preserved c t none =
     let layer = c.layer-in-loop-i.result.now.value in
     let is : c.deref-in-loop-i.result.now ≡ layer = search rules in
-    changed_more t c.args.stack.now.0 c.loop-i.i layer (is_among t c.loop-i.log.items) (is_among t c.note_terms.new.terms.items) c.loop-i.auto.i c.layer-in-loop-i.ensures (c.loop-i.invariant t)
-    (c.in_ok-note_terms.ensures {u = tt} t ∙ ap (λ l. is_among t c.loop-i.log.items || has_term t l) is)
+    let both = c.in_ok-note_terms.ensures {u = tt} t none in
+    changed_more t c.args.stack.now.0 c.loop-i.i layer c.loop-i.auto.i c.layer-in-loop-i.ensures (c.loop-i.invariant t both.0) (ap (has_term t) (sym is) ∙ both.1)
 
 pub last_words-requires : goal.last_words-requires
 last_words-requires c = term_apart
@@ -29,5 +29,5 @@ returns c =
     let is = c.in_ok-terms.ensures.last in
     record {
       sorted = subst (λ (es : List (TermKey × Unit {0})). T (is_sorted term_cmp es)) (sym is) (finite.entries_sorted (from_log {R = term_cmp} log));
-      exact = λ t. ap (is_among t) is ∙ among_last term_cmp term_total t log ∙ c.loop-i.invariant t ∙ ap (λ n. is_changed t (section 1 n layers)) all;
+      others = λ t none. ap (λ n. is_changed t (section 1 n layers)) (sym all) ∙ c.loop-i.invariant t (sym (ap (is_among t) is ∙ among_last term_cmp term_total t log) ∙ none);
     }

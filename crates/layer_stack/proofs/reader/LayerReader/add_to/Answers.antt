@@ -1,50 +1,28 @@
-use Rattle.std.proofs.Common.{◌≡◌, ◌≤◌, None, IfSome, length, ap, ◌∙◌, sym, subst}
+use Rattle.std.proofs.Common.{◌≡◌, [], cond, Option, ◌∙◌, ap, sym, subst, Bor}
 use Rattle.std.specs.Result.{OnOk}
-use Rattle.uni_base.specs.Cursors.{IsRanked}
-use Rattle.posting_lists.specs.Postings.{keys_of}
-use Rattle.layer_base.proofs.Among.{none_of}
-use Rattle.layer_stack.specs.Directories.{puts_in, deletes_in, put_spans, delete_spans}
-use Rattle.layer_stack.specs.Postings.{postings_of, deletes_of}
-use Rattle.layer_stack.specs.Spans.{span_of, told}
-use Rattle.layer_stack.specs.Stacks.{PartValue, and_part}
-use Rattle.layer_stack.proofs.Under.{span_within, postings_told, postings_ranked, deletes_told, deletes_ranked}
+use Rattle.std.specs.Option.{option_map}
+use Rattle.layer_stack.specs.declared.rows.Rows.{Rows}
+use Rattle.layer_stack.specs.Based.{laid_over, layer_of}
+use Rattle.layer_stack.specs.Postings.{PostingChanges, postings_of, deletes_of, putting_all}
+use Rattle.layer_stack.specs.Readers.{ReaderValue}
+use Rattle.layer_stack.specs.Stacks.{PartValue, and_part, has_nothing}
+use Rattle.layer_stack.proofs.Based.{deletes-putting, postings-laid}
 use Rattle.layer_stack.proofs.reader.LayerReader.add_to.Goals as goal
-
-pub returns-then-is_none-clause-parts : goal.returns-then-is_none-clause-parts
-returns-then-is_none-clause-parts c =
-    let l = c.self.inside in let t = c.args.term.now in let seen = c.spans_from-found.ensures in
-    let none : c.spans_from-found.result ≡ None = none_of c.spans_from-found.result (c.if-is_none.ensures {u = tt}) in
-    let one : span_of t (delete_spans l.directory.now) ≡ None = sym seen.deletes ∙ ap deletes_in none in
-    let two : span_of t (put_spans l.directory.now) ≡ None = sym seen.puts ∙ ap puts_in none in
-    let keys = ap (λ v. deletes_of t v.0) (sym c.self.view_is) ∙ deletes_told t (delete_spans l.directory.now) l.deleted.now c.self.invariant.1 ∙ ap (λ o. told o l.deleted.now) one in
-    let list = ap (λ v. postings_of t v.0.puts) (sym c.self.view_is) ∙ postings_told t (put_spans l.directory.now) l.postings.now c.self.invariant.0 ∙ ap (λ o. told o l.postings.now) two in
-    sym (λ i. and_part c.args.parts.now.items (keys i, list i))
-
-pub keys_at-keys-requires : goal.keys_at-keys-requires
-keys_at-keys-requires c =
-    let l = c.self.inside in let t = c.args.term.now in
-    subst (λ o. IfSome o (λ s. (s.from ≤ s.to) × (s.to ≤ length l.deleted.now))) (sym (c.deletes_in.ensures ∙ c.spans_from-found.ensures.deletes)) (span_within (length l.deleted.now) t (delete_spans l.directory.now) c.self.invariant.1.told.within)
-
-pub list_at-list-requires-clause-within : goal.list_at-list-requires-clause-within
-list_at-list-requires-clause-within c =
-    let l = c.self.inside in let t = c.args.term.now in
-    subst (λ o. IfSome o (λ s. (s.from ≤ s.to) × (s.to ≤ length l.postings.now))) (sym (c.puts_in.ensures ∙ c.spans_from-found.ensures.puts)) (span_within (length l.postings.now) t (put_spans l.directory.now) c.self.invariant.0.told.within)
-
-pub list_at-list-requires-clause-ranked : goal.list_at-list-requires-clause-ranked
-list_at-list-requires-clause-ranked c =
-    let l = c.self.inside in let t = c.args.term.now in
-    subst (λ o. IsRanked (keys_of (told o l.postings.now))) (sym (c.puts_in.ensures ∙ c.spans_from-found.ensures.puts)) (postings_ranked t (put_spans l.directory.now) l.postings.now c.self.invariant.0)
-
-pub new-requires : goal.new-requires
-new-requires c =
-    let l = c.self.inside in let t = c.args.term.now in
-    let keys = c.keys_at-keys.ensures ∙ ap (λ o. told o l.deleted.now) (c.deletes_in.ensures ∙ c.spans_from-found.ensures.deletes) in
-    subst IsRanked (sym keys) (deletes_ranked t (delete_spans l.directory.now) l.deleted.now c.self.invariant.1)
+use Rattle.layer_stack.proofs.reader.LayerReader.add_to.Goals.{in-Some, in-None}
 
 pub returns-clause-parts : goal.returns-clause-parts
 returns-clause-parts c =
-    let l = c.self.inside in let t = c.args.term.now in
-    let keys = c.keys_at-keys.ensures ∙ ap (λ o. told o l.deleted.now) (c.deletes_in.ensures ∙ c.spans_from-found.ensures.deletes) ∙ sym (ap (λ v. deletes_of t v.0) (sym c.self.view_is) ∙ deletes_told t (delete_spans l.directory.now) l.deleted.now c.self.invariant.1) in
-    let list = c.list_at-list.ensures ∙ ap (λ o. told o l.postings.now) (c.puts_in.ensures ∙ c.spans_from-found.ensures.puts) ∙ sym (ap (λ v. postings_of t v.0.puts) (sym c.self.view_is) ∙ postings_told t (put_spans l.directory.now) l.postings.now c.self.invariant.0) in
-    let part : c.new.result ≡ (deletes_of t c.args.self.now.0, postings_of t c.args.self.now.0.puts) = c.new.ensures ∙ (λ i. (keys i, list i)) in
+    let l = c.self.inside in let t = c.args.term.now in let rows : PostingChanges = l.rows.0 in
+    let said : c.part-part.result ≡ (deletes_of t rows, postings_of t rows.puts) = c.part-part.ensures.part in
+    let part : c.match-self.part ≡ (deletes_of t c.args.self.now.0, postings_of t c.args.self.now.0.puts) =
+    elim c.match-self.branch [
+      | in-Some w ↦
+          let base : PostingChanges = w.in-Some.base.now in
+          let value : putting_all (laid_over base.puts rows) ≡ c.args.self.now.0 = ap (λ (o : Option (Bor Rows)). layer_of rows (option_map (λ (b : Bor Rows). b.now) o)) (sym w.in-Some.is) ∙ ap (λ (v : ReaderValue). v.0) c.self.view_is in
+          w.part-is ∙ w.over_base-part.ensures ∙ (λ i. ([], cond (has_nothing (said i)) (postings_of t base.puts) (said i).1))
+          ∙ (λ i. (sym (deletes-putting t (laid_over base.puts rows)) i, postings-laid t base.puts rows i)) ∙ ap (λ (v : PostingChanges). (deletes_of t v, postings_of t v.puts)) value
+      | in-None w ↦
+          let value : rows ≡ c.args.self.now.0 = ap (λ (o : Option (Bor Rows)). layer_of rows (option_map (λ (b : Bor Rows). b.now) o)) (sym w.in-None.is) ∙ ap (λ (v : ReaderValue). v.0) c.self.view_is in
+          w.part-is ∙ said ∙ ap (λ (v : PostingChanges). (deletes_of t v, postings_of t v.puts)) value
+    ] in
     subst (λ (v : PartValue). OnOk c.add_part.result (c.add_part.new.parts.items ≡ and_part c.args.parts.now.items v)) part c.add_part.ensures

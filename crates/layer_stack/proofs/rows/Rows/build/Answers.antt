@@ -7,7 +7,7 @@ use Rattle.layer_stack.specs.Places.{place_cmp}
 use Rattle.layer_stack.specs.Runs.{AreSettled}
 use Rattle.layer_stack.specs.Spans.{put_rows, delete_rows, AreLaid, IsSpans}
 use Rattle.layer_stack.proofs.Settled.{settled_laid, settled_map, spans_fit}
-use Rattle.layer_stack.proofs.layer.Layer.build.Goals as goal
+use Rattle.layer_stack.proofs.rows.Rows.build.Goals as goal
 
 pub of-requires-clause-puts : goal.of-requires-clause-puts
 of-requires-clause-puts c =
