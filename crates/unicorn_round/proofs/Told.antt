@@ -21,7 +21,7 @@ use Rattle.round_feed.specs.Compacted.{AreCompacted, compact_entries, installs_b
 use Rattle.unicorn_round.specs.declared.stacks.StackCover.{StackCover}
 use Rattle.unicorn_round.specs.Marks.{StackName}
 use Rattle.unicorn_round.specs.SchemaStacks.{AreStacks, IsStackOf, is_layered}
-use Rattle.unicorn_round.specs.Stacks.{bare, covered, covering, due_untidied, is_due, is_stack, is_untidied, name_of, opening_stacks, stacks_from, stacks_in, tidy, tidy_answers}
+use Rattle.unicorn_round.specs.Stacks.{bare, covered, covering, due_untidied, is_due, is_stack, is_untidied, name_of, opening_stacks, stacks_from, stacks_in, tidy, tidy_answer, tidy_answers}
 use Rattle.unicorn_round.specs.Told.{IsTold, AreTold, AreWithin, HasTidied, id_of, read_in, stacks_of, stacks_told, told_by}
 use Rattle.unicorn_round.specs.Weaving.{compacted_covers, covered_by, is_compaction}
 use Rattle.unicorn_round.proofs.StackLists.{due_again}
@@ -398,6 +398,40 @@ read_so_far schema version (suc n) [] all = tt
 read_so_far schema version (suc n) (cover ∷ covers) all = (all.0, read_so_far schema version n covers all.1)
 
 -- ---- the stacks that were due were tidied
+
+pub length_nothing : {X : Type 0} (xs : List X) → length xs ≡ 0 → xs ≡ []
+length_nothing [] none = refl
+length_nothing (x ∷ xs) none = absurd (omega (arith, none))
+
+-- where none is due
+none_due : (made : ℕ) (names : List StackName) (covers : List StackCover) → [] ≡ filter (is_due made) covers → (map (tidy made names) covers ≡ covers) × (due_untidied made names covers ≡ [])
+none_due made names [] none = (refl, refl)
+none_due made names (cover ∷ covers) none = by (is_due made cover) refl none (none_due made names covers)
+  where
+    by : (b : Bool) → is_due made cover ≡ b → [] ≡ (if b then cover ∷ filter (is_due made) covers else filter (is_due made) covers)
+        → ([] ≡ filter (is_due made) covers → (map (tidy made names) covers ≡ covers) × (due_untidied made names covers ≡ []))
+        → (map (tidy made names) (cover ∷ covers) ≡ cover ∷ covers) × (due_untidied made names (cover ∷ covers) ≡ [])
+    by true e none rest = absurd (cc none)
+    by false e none rest =
+        let both = rest none in (
+          (λ i. (if e i && not (is_untidied names cover) then record cover { covers = made } else cover) ∷ both.0 i),
+          ap (λ b. map name_of (if b && is_untidied names cover then cover ∷ filter (λ c. is_due made c && is_untidied names c) covers else filter (λ c. is_due made c && is_untidied names c) covers)) e ∙ both.1,
+        )
+
+pub nothing_tidied : (schema : Declarations) (before after : List Install) (made : ℕ) (now : List StackCover) → now ≡ stacks_told schema before → before ≡ after → [] ≡ filter (is_due made) now → HasTidied schema made before after now []
+nothing_tidied schema before after made now told same none =
+    let each : [] ≡ filter (is_due made) (stacks_told schema before) = none ∙ ap (filter (is_due made)) told in
+    let both = none_due made [] (stacks_told schema before) each in
+    record {
+      tidied = record {
+        untidied = [];
+        due = sym both.1;
+        covers = told ∙ sym both.0;
+        answers = ap (map (tidy_answer made [])) each;
+      };
+      stacks = told ∙ ap (stacks_told schema) same;
+      within = subst (AreWithin made) same;
+    }
 
 module _ (schema : Declarations) (before after : List Install) (made : ℕ) (version : VersionState) where
   abbrev old_stacks : List StackCover

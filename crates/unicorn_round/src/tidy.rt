@@ -73,6 +73,9 @@ fn tidy_due<R: Threads + Wait + Sync, G: Gate>(
 {
     let before = stacks_now(rt, alloc, catalogue, compactor)?;
     let due = before.due(made)?;
+    if due.is_empty() {
+        return Ok((Vec::new(alloc), before));
+    }
     let pinned = tidy_stacks(rt, alloc, catalogue, compactor, due.as_slice())?;
     let version = pinned.version();
     let answers = tidied_in(rt, alloc, version, &before, due.as_slice(), made, gate)?;

@@ -1,14 +1,16 @@
-use Rattle.std.proofs.Common.{◌≡◌, ◌+◌, ◌*◌, arith, length, map, filter, sym, subst, ap, ◌∙◌}
+use Rattle.std.proofs.Common.{rules, ◌≡◌, [], ◌+◌, ◌*◌, arith, length, map, filter, sym, subst, ap, ◌∙◌}
+use Rattle.std.proofs.lemmas.Bool.Decides.{nat_tests}
 use Rattle.std.specs.List.{AllByRecursion}
+use Rattle.std.specs.Vec.{vec_len}
 use Rattle.shard_index.specs.Versions.{VersionState}
 use Rattle.session_asks.proofs.Replied.{length_prefix}
 use Rattle.version_catalog.specs.Installs.{IsLayered, Raises}
 use Rattle.version_catalog.specs.Seats.{compactor_installs, compactor_journal, settings_of}
 use Rattle.unicorn_round.specs.SchemaStacks.{AreStacks, IsStackOf, is_layered}
 use Rattle.unicorn_round.specs.Stacks.{due_untidied, is_due, name_of, tidy_answers}
-use Rattle.unicorn_round.specs.Told.{id_of, stacks_told}
+use Rattle.unicorn_round.specs.Told.{HasTidied, id_of, stacks_told}
 use Rattle.unicorn_round.proofs.EndingSteps.{due_are, turned_through}
-use Rattle.unicorn_round.proofs.Told.{has_tidied}
+use Rattle.unicorn_round.proofs.Told.{has_tidied, length_nothing, nothing_tidied}
 use Rattle.unicorn_round.proofs.tidy.tidy_due.Goals as goal
 
 pub tidy_stacks-requires-clause-compactor : goal.tidy_stacks-requires-clause-compactor
@@ -71,3 +73,15 @@ returns-clause-tidied g c = λ first last.
     let says : c.in_ok-answers.answers.items ≡ tidy_answers made (due_untidied made (map name_of (filter (is_layered version) c.as_slice.result.now)) (stacks_told schema before)) (stacks_told schema before) =
     (c.in_ok-answers.ensures {u = tt}) ∙ (λ i. tidy_answers made (due_untidied made (map name_of (filter (is_layered version) (two i))) (told i)) (told i)) in
     has_tidied schema before after made version c.as_slice.result.now c.in_ok-after.after c.in_ok-answers.answers.items same count layers (subst (AreStacks schema) told stacks.are) chosen raises now.is now.are says
+
+pub returns-then-is_empty-clause-tidied : goal.returns-then-is_empty-clause-tidied
+returns-then-is_empty-clause-tidied g c = λ first last.
+    let schema = (settings_of c.args.catalogue.now).schema in
+    let before = compactor_installs c.args.compactor.now in
+    let after = compactor_installs c.stacks_now.new.compactor in
+    let stacks = c.in_ok-before.ensures {u = tt} in
+    let long : vec_len c.in_ok-due.due ≡ length c.in_ok-due.due.items = search rules in
+    let zero : length c.in_ok-due.due.items ≡ 0 = grind (arith, c.is_empty.ensures, c.if-is_empty.true, long, nat_tests) in
+    let empty = length_nothing c.in_ok-due.due.items zero in
+    subst (HasTidied schema c.args.made before after c.in_ok-before.before) (sym c.new.ensures.items)
+    (nothing_tidied schema before after c.args.made c.in_ok-before.before (stacks.told ∙ ap (stacks_told schema) c.stacks_now.ensures.kept) (sym c.stacks_now.ensures.kept) (sym empty ∙ (c.in_ok-due.ensures {u = tt})))
