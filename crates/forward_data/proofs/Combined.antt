@@ -1,5 +1,5 @@
 -- Records put one by one, by look-ups.
-use Rattle.std.proofs.Common.{◌≡◌, ℕ, zero, suc, ◌+◌, ◌-◌, ◌<◌, ◌≤◌, Bool, true, false, cond, ◌||◌, List, [], ◌∷◌, ◌++◌, map, take, drop, length, get_or, slice_get, Option, None, Some, refl, sym, ◌∙◌, ap, subst, is_some, arith}
+use Rattle.std.proofs.Common.{◌≡◌, ℕ, zero, suc, ◌+◌, ◌-◌, ◌<◌, ◌≤◌, Bool, true, false, cond, ◌||◌, List, [], ◌∷◌, ◌++◌, take, drop, length, get_or, slice_get, Option, None, Some, refl, sym, ◌∙◌, ap, subst, is_some, arith}
 use Rattle.std.specs.Cmp.{Equal-is}
 use Rattle.std.specs.Prelude.{T}
 use Rattle.std.specs.Option.{unwrap_or}
@@ -10,14 +10,13 @@ use Rattle.std.proofs.lemmas.Cmp.{eq_by_cmp_equiv}
 use Rattle.std.proofs.lemmas.List.{take_more, drop-append-le, length-take-le}
 use Rattle.std.proofs.lemmas.List.Folds.{list_any-append}
 use Rattle.std.proofs.lemmas.Option.{get_or_from_slice_get, slice_get_within}
-use Rattle.layer_base.proofs.Among.{among_noted, among_first, is_done, done_further, done_skipped, done_copied, done_whole, or_false, or_nothing, none_of}
-use Rattle.layer_base.specs.Among.{bare}
+use Rattle.layer_base.proofs.Among.{among_first, is_done, done_further, done_skipped, done_copied, done_whole, or_false, or_nothing, none_of}
 use Rattle.layer_base.proofs.Sorted.{find_at}
 use Rattle.forward_data.specs.declared.record.ForwardItem.{ForwardItem}
 use Rattle.forward_data.specs.declared.record.RecordKey.{RecordKey}
-use Rattle.forward_data.specs.Combined.{is_among, is_changed, AreChanged, putting_record, putting_records, StandAlone}
-use Rattle.forward_data.specs.Records.{Records, record_cmp, records_over, records_from, records_of, record_of, AreFull}
-use Rattle.forward_data.proofs.Newest.{under, get-over, full_of}
+use Rattle.forward_data.specs.Combined.{is_among, is_changed, AreAlone, AreChanged, putting_record, putting_records, StandAlone}
+use Rattle.forward_data.specs.Records.{Records, record_cmp, records_over, records_from, records_of, record_of, AreFull, under}
+use Rattle.forward_data.proofs.Newest.{get-over, full_of}
 use Rattle.forward_data.proofs.Order.{record_total, record_apart}
 
 -- ---- records put at some keys
@@ -132,26 +131,27 @@ oldest_record layers count base k at some none =
 self_equal : (k : RecordKey) → eq_by_cmp record_cmp k k ≡ true
 self_equal k = (eq_by_cmp_equiv record_total).refl k
 
-pub oldest_alone : (layers : List Records) (count : ℕ) (base : Records) (changed : List (RecordKey × Unit {0})) (rows : List (RecordKey × List ForwardItem)) → slice_get layers 0 ≡ Some base → 0 < count
-    → AreChanged (drop 1 (take count layers)) changed → T (is_sorted record_cmp rows) → ((k : RecordKey) → finite.get base k ≡ find record_cmp k rows) → StandAlone changed rows (take count layers)
-oldest_alone layers count base changed rows at some are sorted tells = record {
+pub oldest_alone : (layers : List Records) (count : ℕ) (oldest : Records) (changed : List (RecordKey × Unit {0})) → slice_get layers 0 ≡ Some oldest → 0 < count
+    → AreChanged (drop 1 (take count layers)) changed → AreAlone changed oldest (take count layers)
+oldest_alone layers count oldest changed at some are k none = oldest_record layers count oldest k at some (are.others k none)
+
+pub stand_alone : (layers : List Records) (records : Records) (changed : List (RecordKey × Unit {0})) (rows : List (RecordKey × List ForwardItem))
+    → AreAlone changed records layers → T (is_sorted record_cmp rows) → ((k : RecordKey) → finite.get records k ≡ find record_cmp k rows) → StandAlone changed rows layers
+stand_alone layers records changed rows alone sorted tells = record {
   each = λ i d fits none.
       let k = (get_or rows i d).0 in
-      sym (oldest_record layers count base k at some (sym (are.exact k) ∙ none)
-      ∙ ap (λ f. unwrap_or f []) (tells k ∙ find_at record_cmp record_total k rows i d sorted fits ((Equal-is (record_cmp k k)).0 (self_equal k))));
-  none = λ k none absent.
-      oldest_record layers count base k at some (sym (are.exact k) ∙ none) ∙ ap (λ f. unwrap_or f []) (tells k ∙ none_of (find record_cmp k rows) absent);
+      sym (alone k none ∙ ap (λ f. unwrap_or f []) (tells k ∙ find_at record_cmp record_total k rows i d sorted fits ((Equal-is (record_cmp k k)).0 (self_equal k))));
+  none = λ k none absent. alone k none ∙ ap (λ f. unwrap_or f []) (tells k ∙ none_of (find record_cmp k rows) absent);
 }
 
 -- ---- the keys that are changed
 
 -- the keys of one layer more
-pub changed_more : (k : RecordKey) (layers : List Records) (i : ℕ) (layer : Records) (log : List (RecordKey × Unit {0})) → 1 ≤ i → slice_get layers i ≡ Some layer → is_among k log ≡ is_changed k (drop 1 (take i layers))
-    → is_among k (log ++ map bare (finite.entries layer)) ≡ is_changed k (drop 1 (take (i + 1) layers))
-changed_more k layers i layer log le at so_far =
-    among_noted record_cmp k log (finite.entries layer)
-    ∙ (λ j. so_far j || ap is_some (sym (finite.get-entries layer k)) j)
-    ∙ sym (ap (is_changed k) more ∙ list_any-append (λ l. is_some (finite.get l k)) (drop 1 (take i layers)) (layer ∷ []) ∙ ap (λ b. is_changed k (drop 1 (take i layers)) || b) (or_nothing (is_some (finite.get layer k))))
+pub changed_more : (k : RecordKey) (layers : List Records) (i : ℕ) (layer : Records) → 1 ≤ i → slice_get layers i ≡ Some layer → is_changed k (drop 1 (take i layers)) ≡ false → is_some (finite.get layer k) ≡ false
+    → is_changed k (drop 1 (take (i + 1) layers)) ≡ false
+changed_more k layers i layer le at so_far none =
+    ap (is_changed k) more ∙ list_any-append (λ l. is_some (finite.get l k)) (drop 1 (take i layers)) (layer ∷ []) ∙ ap (λ b. is_changed k (drop 1 (take i layers)) || b) (or_nothing (is_some (finite.get layer k)))
+    ∙ (λ j. so_far j || none j)
   where
     fits : i < length layers
     fits = slice_get_within layers i layer at
@@ -160,6 +160,6 @@ changed_more k layers i layer log le at so_far =
     more = ap (drop 1) (take_more layers i layer fits ∙ ap (λ x. take i layers ++ x ∷ []) (get_or_from_slice_get layers i layer layer at))
         ∙ drop-append-le 1 (take i layers) (layer ∷ []) (omega (arith, le, length-take-le i layers (omega (arith, fits))))
 
-pub changed_start : (k : RecordKey) (layers : List Records) → false ≡ is_changed k (drop 1 (take 1 layers))
+pub changed_start : (k : RecordKey) (layers : List Records) → is_changed k (drop 1 (take 1 layers)) ≡ false
 changed_start k [] = refl
 changed_start k (layer ∷ layers) = refl

@@ -1,3 +1,4 @@
 pub mod Newest
 pub mod Order
 pub mod Combined
+pub mod Based

@@ -14,15 +14,10 @@ use Rattle.layer_base.proofs.Changes.{get-set_at}
 use Rattle.layer_base.proofs.Sorted.{first, second, find_below}
 use Rattle.forward_data.specs.declared.record.ForwardItem.{ForwardItem}
 use Rattle.forward_data.specs.declared.record.RecordKey.{RecordKey}
-use Rattle.forward_data.specs.Records.{Records, record_cmp, left_by, replacing, records_over, records_from, records_of, record_of, AreFull}
+use Rattle.forward_data.specs.Records.{Records, record_cmp, left_by, replacing, records_over, records_from, records_of, record_of, AreFull, under}
 use Rattle.forward_data.proofs.Order.{record_total, record_apart}
 
--- what is left of a record under what a layer says of it
-abbrev pub under : Option (List ForwardItem) → Option (List ForwardItem) → Option (List ForwardItem)
-under None older = older
-under (Some items) older = left_by items
-
-get-after : (es : List (RecordKey × List ForwardItem)) (records : Records) (q : RecordKey) → T (is_sorted record_cmp es) → finite.get (after records (map replacing es)) q ≡ under (find record_cmp q es) (finite.get records q)
+pub get-after : (es : List (RecordKey × List ForwardItem)) (records : Records) (q : RecordKey) → T (is_sorted record_cmp es) → finite.get (after records (map replacing es)) q ≡ under (find record_cmp q es) (finite.get records q)
 get-after [] records q sorted = refl
 get-after (e ∷ es) records q sorted =
     get-after es (set_at records e.0 (left_by e.1)) q (second _ _ sorted) ∙ ap (under (find record_cmp q es)) (get-set_at record_total records e.0 (left_by e.1) q) ∙ by (eq_by_cmp record_cmp q e.0) refl

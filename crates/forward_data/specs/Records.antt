@@ -24,6 +24,11 @@ abbrev pub left_by : List ForwardItem → Option (List ForwardItem)
 left_by [] = None
 left_by (item ∷ items) = Some (item ∷ items)
 
+-- what a record of rows leaves, or else what is under it
+abbrev pub under : Option (List ForwardItem) → Option (List ForwardItem) → Option (List ForwardItem)
+under None older = older
+under (Some items) older = left_by items
+
 -- a record of a layer as a change
 abbrev pub replacing : RecordKey × List ForwardItem → RecordKey × Option (List ForwardItem)
 replacing row = (row.0, left_by row.1)

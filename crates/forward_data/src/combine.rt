@@ -5,7 +5,7 @@ ghost use Rattle.std.specs.FinMap.{is_sorted};
 ghost use Rattle.forward_data.specs.Records.{record_cmp, record_of, records_of};
 ghost use Rattle.forward_data.specs.Combined.{AreChanged, StandAlone, is_among, putting_record, putting_records};
 
-use crate::layer::left_by;
+use crate::rows::left_by;
 use crate::{ForwardDelta, ForwardItem, ForwardItems, ForwardStack, RecordKey};
 use layer_base::{first_after, last_words, look_up_near};
 use std::alloc::{AllocError, Global};
@@ -60,7 +60,7 @@ pub(crate) fn combined(
 }
 
 // A hint for each of so many layers, at its first record.
-fn first_hints(alloc: Global, count: usize) -> Result<Vec<usize>, AllocError>
+pub(crate) fn first_hints(alloc: Global, count: usize) -> Result<Vec<usize>, AllocError>
     ensures { IfOk result (λ hints. length hints.items ≡ count) }
 {
     let mut hints = Vec::with_capacity(alloc, count)?;

@@ -1,22 +1,23 @@
-ghost use Rattle.std.specs.Prelude.{◌≡◌, ◌<◌, ◌≤◌, ◌^◌, ◌++◌, Some, length, map, take, drop, OnOk, OnErr, IfOk};
+ghost use Rattle.std.specs.Prelude.{◌≡◌, ◌<◌, ◌≤◌, ◌+◌, ◌^◌, Some, is_some, false, length, take, drop, OnOk, OnErr, IfOk};
 ghost use Rattle.std.specs.List.{slice_get};
 ghost use Rattle.std.specs.FinMap as finite;
 ghost use Rattle.std.specs.Option.{option_map};
-ghost use Rattle.layer_base.specs.Among.{bare};
-ghost use Rattle.forward_data.specs.Combined.{AreChanged};
-ghost use Rattle.forward_data.specs.Records.{record_key, left_by, records_of};
+ghost use Rattle.forward_data.specs.Combined.{AreChanged, is_among};
+ghost use Rattle.forward_data.specs.Records.{record_key, records_over, records_of, under};
 
-use crate::combine::combined;
-use crate::{ForwardItem, ForwardItems, ForwardStack, RecordKey};
-use layer_base::{last_words, look_up, look_up_near};
+use crate::patch::merged;
+use crate::rows::{RecordRows, full};
+use crate::{ForwardItems, ForwardStack, RecordKey};
+use layer_base::last_words;
 use std::alloc::{AllocError, Global};
 use std::marker::Model;
-use uni_base::{EntityId, Rows};
+use std::sync::Arc;
+use uni_base::EntityId;
 
 /// The records of a layer as they come in.
 #[derive(Drop)]
 pub struct ForwardDelta {
-    log: Vec<(RecordKey, ForwardItems)>,
+    pub(crate) log: Vec<(RecordKey, ForwardItems)>,
 }
 
 impl Model for ForwardDelta {
@@ -58,25 +59,30 @@ impl ForwardDelta {
     }
 }
 
-/// A layer of a stack of records.
+/// A layer of a stack of records. A merged layer may share most of its records with the one that it is
+/// made of: it has rows of its own at the keys that changed since, and a base at all others.
 #[derive(Drop)]
 pub struct ForwardLayer {
-    rows: Vec<(RecordKey, ForwardItems)>,
+    rows: Arc<RecordRows>,
+    // What stands at the keys that the rows leave alone.
+    base: Option<Arc<RecordRows>>,
 }
 
 impl Model for ForwardLayer {
-    ghost use Rattle.std.specs.Prelude.{T};
+    ghost use Rattle.std.specs.Option.{option_map};
     ghost use Rattle.std.specs.Coded.{codes};
     ghost use Rattle.std.specs.FinMap as finite;
-    ghost use Rattle.forward_data.specs.Records.{Records, record_cmp};
+    ghost use Rattle.std.specs.Prelude.{◌<◌, ◌+◌, ◌^◌, IfSome};
+    ghost use Rattle.forward_data.specs.Combined.{layer_of};
+    ghost use Rattle.forward_data.specs.Records.{Records};
 
     ghost Value = { Records };
 
     ghost coded = { Prim.hlevel (codes, finite.code) };
 
-    ghost view = { λ l. finite.from_sorted l.rows.items };
+    ghost view = { λ l. layer_of l.rows.value (option_map (λ b. b.value) l.base) };
 
-    ghost invariant = { λ l. T (finite.is_sorted record_cmp l.rows.items) };
+    ghost invariant = { λ l. IfSome l.base (λ b. finite.len b.value + finite.len l.rows.value < 2 ^ 63) };
 }
 
 impl ForwardLayer {
@@ -84,9 +90,21 @@ impl ForwardLayer {
     pub fn build(delta: ForwardDelta) -> Result<ForwardLayer, AllocError>
         ensures { IfOk result (λ layer. layer ≡ delta) }
     {
-        let ForwardDelta { log } = delta;
-        let rows = last_words(log)?;
-        Ok(ForwardLayer { rows })
+        let alloc = *delta.log.allocator();
+        let rows = RecordRows::build(delta)?;
+        let rows = Arc::new(alloc, rows)?;
+        Ok(ForwardLayer { rows, base: None })
+    }
+
+    // The layer of rows over a base.
+    pub(crate) fn over(rows: Arc<RecordRows>, base: Arc<RecordRows>) -> ForwardLayer
+        requires { finite.len base.value + finite.len rows.value < 2 ^ 63 }
+        ensures { result ≡ records_over base.value rows.value }
+    {
+        ForwardLayer {
+            rows,
+            base: Some(base),
+        }
     }
 
     /// The number of its records.
@@ -94,72 +112,82 @@ impl ForwardLayer {
         ensures entries { result ≡ finite.len self.now }
         ensures few { result < 2 ^ 63 }
     {
-        self.rows.len() as u64
+        match &self.base {
+            Some(base) => self.rows.entries_over(base),
+            None => self.rows.len() as u64,
+        }
     }
 
-    // Adds the keys of its records to a list.
+    // Adds the keys of its records to a list, and maybe others.
     pub(crate) fn note_keys(&self, keys: &mut Vec<(RecordKey, ())>) -> Result<(), AllocError>
-        ensures { OnOk result (keys.new.items ≡ keys.old.items ++ map bare (finite.entries self.now)) }
+        ensures { OnOk result ((k : RecordKey) → is_among k keys.new.items ≡ false → (is_among k keys.old.items ≡ false) × (is_some (finite.get self.now k) ≡ false)) }
     {
-        note_rows(keys, &self.rows)
+        self.rows.note_keys(keys)?;
+        if let Some(base) = &self.base {
+            base.note_keys(keys)?;
+        }
+        Ok(())
     }
 
-    // Puts the records that the first layers of a stack stand for, of which this is the oldest one.
-    // The changed keys are those at which the newer ones of them have records.
+    // What the first layers of a stack stand for, of which this is the oldest one, as one layer. Under
+    // any other key than the changed ones the newer ones of them have no record.
     pub(crate) fn combined(
         &self,
         alloc: Global,
         stack: &ForwardStack,
         count: usize,
-        changed: &[(RecordKey, ())],
-    ) -> Result<ForwardDelta, AllocError>
+        changed: Vec<(RecordKey, ())>,
+    ) -> Result<ForwardLayer, AllocError>
         requires oldest { slice_get stack.now.0 0 ≡ Some self.now }
         requires count { (0 < count) × (count ≤ length stack.now.0) }
-        requires changed { AreChanged (drop 1 (take count stack.now.0)) changed.now }
-        ensures { IfOk result (λ delta. delta ≡ records_of (take count stack.now.0)) }
+        requires changed { AreChanged (drop 1 (take count stack.now.0)) changed.items }
+        ensures { IfOk result (λ layer. layer ≡ records_of (take count stack.now.0)) }
     {
-        combined(alloc, stack, count, changed, &self.rows)
+        match &self.base {
+            Some(base) => {
+                let mut keys = changed;
+                self.rows.note_keys(&mut keys)?;
+                let keys = last_words(keys)?;
+                merged(alloc, stack, count, &keys, base)
+            }
+            None => merged(alloc, stack, count, &changed, &self.rows),
+        }
     }
 
     // Its record, which may be empty. None exactly where it says nothing of the record.
     pub(crate) fn record(&self, key: &RecordKey) -> Option<&ForwardItems>
         ensures { option_map (λ r. r.now) result ≡ finite.get self.now key.now }
     {
-        look_up(&self.rows, key)
+        let own = self.rows.record(key);
+        match &self.base {
+            Some(base) => over(own, base, key),
+            None => own,
+        }
     }
 
     // The same, by a search that begins at a hint. Keys that are asked for in their order are found
-    // at once.
+    // at once among its own rows.
     pub(crate) fn record_near(&self, hint: &mut usize, key: &RecordKey) -> Option<&ForwardItems>
         ensures { option_map (λ r. r.now) result ≡ finite.get self.now key.now }
     {
-        look_up_near(&self.rows, hint, key)
+        let own = self.rows.record_near(hint, key);
+        match &self.base {
+            Some(base) => over(own, base, key),
+            None => own,
+        }
     }
 }
 
-fn note_rows(
-    keys: &mut Vec<(RecordKey, ())>,
-    rows: &[(RecordKey, ForwardItems)],
-) -> Result<(), AllocError>
-    ensures { OnOk result (keys.new.items ≡ keys.old.items ++ map bare rows.now) }
+// The record at a key, given what a layer's own rows have there, which lie over a base.
+fn over<'a>(
+    own: Option<&'a ForwardItems>,
+    base: &'a RecordRows,
+    key: &RecordKey,
+) -> Option<&'a ForwardItems>
+    ensures { option_map (λ r. r.now) result ≡ under (option_map (λ r. r.now) own.entry) (finite.get base.now key.now) }
 {
-    for (key, _items) in rows {
-        keys.push((*key, ()))?;
+    match own {
+        Some(items) => full(items),
+        None => base.record(key),
     }
-    Ok(())
-}
-
-// A copy of a record that is not empty.
-pub(crate) fn left_by(
-    alloc: Global,
-    items: &[ForwardItem],
-) -> Result<Option<ForwardItems>, AllocError>
-    ensures { IfOk result (λ left. left ≡ left_by items.now) }
-{
-    if items.is_empty() {
-        return Ok(None);
-    }
-    let mut copy = Rows::new(alloc);
-    copy.extend_from_slice(items)?;
-    Ok(Some(copy))
 }

@@ -4,7 +4,9 @@
 
 mod combine;
 mod layer;
+mod patch;
 mod record;
+mod rows;
 mod stack;
 
 pub use layer::{ForwardDelta, ForwardLayer};

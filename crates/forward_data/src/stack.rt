@@ -108,8 +108,7 @@ impl ForwardStack {
             return ForwardLayer::build(ForwardDelta::new(alloc));
         }
         let changed = changed_keys(alloc, self, count)?;
-        let delta = self.layer(0).combined(alloc, self, count, &changed)?;
-        ForwardLayer::build(delta)
+        self.layer(0).combined(alloc, self, count, changed)
     }
 }
 

@@ -26,8 +26,8 @@ use Rattle.uni_table.specs.declared.command.EdgeRow.{EdgeRow}
 use Rattle.uni_table.proofs.Listed.{none_in_nil, first_or_later}
 use Rattle.forward_data.specs.declared.record.ForwardItem.{ForwardItem}
 use Rattle.forward_data.specs.declared.record.RecordKey.{RecordKey}
-use Rattle.forward_data.specs.Records.{Records, record_key, record_cmp, records_over, left_by, AreFull}
-use Rattle.forward_data.proofs.Newest.{under, get-over}
+use Rattle.forward_data.specs.Records.{Records, record_key, record_cmp, records_over, left_by, AreFull, under}
+use Rattle.forward_data.proofs.Newest.{get-over}
 use Rattle.forward_data.proofs.Order.{record_total, record_apart}
 use Rattle.shard_index.specs.ChangedRows.{same_audiences, audience_of, record_from, record_within, changed_record, is_record, is_among, items_of, AreShardRecords}
 use Rattle.shard_index.specs.Shards.{record_of_edge, items_from, record_row, shard_rows}

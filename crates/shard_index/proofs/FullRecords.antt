@@ -3,8 +3,8 @@ use Rattle.std.proofs.Common.{◌≡◌, List, [], ◌∷◌, Option, None, Some
 use Rattle.std.specs.FinMap as finite
 use Rattle.forward_data.specs.declared.record.ForwardItem.{ForwardItem}
 use Rattle.forward_data.specs.declared.record.RecordKey.{RecordKey}
-use Rattle.forward_data.specs.Records.{Records, record_cmp, records_over, AreFull}
-use Rattle.forward_data.proofs.Newest.{under, get-over}
+use Rattle.forward_data.specs.Records.{Records, record_cmp, records_over, AreFull, under}
+use Rattle.forward_data.proofs.Newest.{get-over}
 use Rattle.forward_data.proofs.Order.{record_total, record_apart}
 
 -- over nothing they stand for themselves

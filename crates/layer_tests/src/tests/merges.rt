@@ -9,7 +9,7 @@ use posting_lists::Posting;
 use std::alloc::Global;
 use std::sync::Arc;
 use std::test::Fail;
-use uni_base::{Audience, DocKey, Key, Rank};
+use uni_base::{Audience, DocKey, Key, Rank, cut_at};
 
 fn term() -> Result<TermKey, Fail> {
     Ok(TermKey {
@@ -205,4 +205,77 @@ fn merged_records_are_read_as_before(rt: HostRuntime) -> Result<(), Fail> {
         }
     }
     Ok(())
+}
+
+// A layer with many more records beside the two.
+fn wide_records(alloc: Global) -> Result<Arc<ForwardLayer>, Fail> {
+    let mut delta = ForwardDelta::new(alloc);
+    for id in 100..140 {
+        replace(alloc, &mut delta, id, &[1, 2])?;
+    }
+    replace(alloc, &mut delta, 8, &[4])?;
+    let layer = ForwardLayer::build(delta)?;
+    Ok(Arc::new(alloc, layer)?)
+}
+
+// A stack with one more layer, as one layer.
+fn records_merged_with(
+    alloc: Global,
+    stack: &ForwardStack,
+    layer: Arc<ForwardLayer>,
+) -> Result<ForwardStack, Fail> {
+    let next = with_records(stack, layer)?;
+    let front = merge_forward(alloc, &next, next.layers())?;
+    let front = Arc::new(alloc, front)?;
+    Ok(ForwardStack::of(alloc, front)?)
+}
+
+// What the records of two entities are replaced by, each a digit for a target, with a bar between them,
+// and how many records there are then.
+const REPLACED: &[(&[u8], u64)] = &[
+    (b"1|", 41),
+    (b"|67", 41),
+    (b"|", 40),
+    (b"9|2", 42),
+    (b"123|2", 42),
+];
+
+// A layer that replaces the records of the two entities so.
+fn replacing(alloc: Global, first: &[u8], second: &[u8]) -> Result<Arc<ForwardLayer>, Fail> {
+    let mut delta = ForwardDelta::new(alloc);
+    replace(alloc, &mut delta, 5, targets(alloc, first)?.as_slice())?;
+    replace(alloc, &mut delta, 8, targets(alloc, second)?.as_slice())?;
+    let layer = ForwardLayer::build(delta)?;
+    Ok(Arc::new(alloc, layer)?)
+}
+
+fn targets(alloc: Global, digits: &[u8]) -> Result<Vec<u64>, Fail> {
+    let mut targets = Vec::new(alloc);
+    for digit in digits {
+        targets.push((*digit % 16) as u64)?;
+    }
+    Ok(targets)
+}
+
+// The first row at which merged records are not as they were replaced.
+fn replaced_otherwise(alloc: Global) -> Result<Option<u64>, Fail> {
+    let mut stack = ForwardStack::of(alloc, wide_records(alloc)?)?;
+    let mut row = 0_u64;
+    for (digits, entries) in REPLACED {
+        let (first, second) = cut_at(digits, b'|').ok_or("no bar")?;
+        stack = records_merged_with(alloc, &stack, replacing(alloc, first, second)?)?;
+        if lengths(alloc, &stack, 1)? != (*entries, first.len(), second.len()) {
+            return Ok(Some(row));
+        }
+        row = row.saturating_add(1);
+    }
+    Ok(None)
+}
+
+#[test]
+fn merged_records_are_shared(rt: HostRuntime) -> Result<(), Fail> {
+    match replaced_otherwise(rt.alloc())? {
+        Some(row) => Err(Fail::new(row)),
+        None => Ok(()),
+    }
 }

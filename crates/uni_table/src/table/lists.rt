@@ -75,6 +75,6 @@ pub(crate) fn in_order(held: Vec<Held>) -> HeldList
     ensures sorted { IsSortedByKey (λ h. h.edge) edge_cmp result }
 {
     let mut held = held;
-    held.sort_unstable_by_key(|held| held.edge);
+    held.sort_unstable_by(|one, other| one.edge.cmp(&other.edge));
     HeldList::from_vec(held)
 }
