@@ -8,7 +8,7 @@ use Rattle.uni_base.specs.KeySets.{has_key}
 use Rattle.uni_base.specs.RankOrder.{doc_cmp}
 use Rattle.uni_base.proofs.RankedLemmas.{IsBeforeAll, IsBeforeAll-ranked, IsRanked-keys_from, Standing, standing, before, same, after, has_key-before, is_before_trans, is_before_self, is_before_back, is_eq_self, same_from_is_eq, IsBeforeAll-head, IsBeforeAll-tail}
 use Rattle.lineage_tree.specs.Tree.{Tree}
-use Rattle.shard_eval.specs.Found.{Found, found_from, found_keys, is_at, tree_at, KeepsLater}
+use Rattle.shard_eval.specs.Found.{Found, first_at, found_from, found_keys, is_at, tree_at, KeepsLater}
 
 -- there is a tree exactly where the key is found
 pub has_tree : (fs : List Found) (k : DocKey) → is_some (tree_at fs k) ≡ has_key (found_keys fs) k
@@ -26,11 +26,6 @@ none_from (Some x) e = cc
 -- none where all keys come after it
 pub none_before : (fs : List Found) (k : DocKey) → IsBeforeAll k (found_keys fs) → tree_at fs k ≡ None
 none_before fs k all = none_from (tree_at fs k) (has_tree fs k ∙ has_key-before k (found_keys fs) all)
-
--- the tree of the first that is found, if it is at a key
-abbrev pub first_at : DocKey → List Found → Option Tree
-first_at k [] = None
-first_at k (f ∷ fs) = cond (is_at k f) (Some f.tree) None
 
 -- the tree at a key stands first of what is found from there on
 pub tree_here : (fs : List Found) (k : DocKey) → IsRanked (found_keys fs) → tree_at fs k ≡ first_at k (found_from k fs)

@@ -6,8 +6,8 @@ use Rattle.uni_base.specs.declared.entity.DocKey.{DocKey}
 use Rattle.uni_base.specs.Cursors.{is_before, is_less, IsRanked}
 use Rattle.uni_base.specs.RankOrder.{doc_cmp}
 use Rattle.lineage_tree.specs.declared.lineage.RawHit.{RawHit}
-use Rattle.shard_eval.specs.Found.{Found, found_all, found_from, found_keys, found_of, hit_keys, is_at, tree_at, KeepsLater}
-use Rattle.shard_eval.proofs.FoundLists.{all_stay, first_at, keeps_from, not_at_before}
+use Rattle.shard_eval.specs.Found.{Found, first_at, found_all, found_from, found_keys, found_of, hit_keys, is_at, tree_at, KeepsLater}
+use Rattle.shard_eval.proofs.FoundLists.{all_stay, keeps_from, not_at_before}
 
 pub keys_all : (hits : List RawHit) → found_keys (found_all hits) ≡ hit_keys hits
 keys_all [] = refl

@@ -1,3 +1,4 @@
+mod AnyTrees
 mod FirstKeys
 mod FoundLists
 pub mod FoundRanked

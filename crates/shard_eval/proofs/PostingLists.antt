@@ -6,8 +6,7 @@ use Rattle.posting_lists.specs.declared.posting.Posting.{Posting}
 use Rattle.posting_lists.specs.Postings.{keys_of, postings_from}
 use Rattle.lineage_tree.specs.Tree.{Tree}
 use Rattle.shard_eval.specs.declared.leaf.Leaf.{Leaf}
-use Rattle.shard_eval.specs.Found.{Found, found_from, found_keys, found_posting, is_at}
-use Rattle.shard_eval.proofs.FoundLists.{first_at}
+use Rattle.shard_eval.specs.Found.{Found, first_at, found_from, found_keys, found_posting, is_at}
 
 pub from_postings : (leaf : Leaf) (key : DocKey) (ps : List Posting) → found_from key (map (found_posting leaf) ps) ≡ map (found_posting leaf) (postings_from key ps)
 from_postings leaf key [] = refl

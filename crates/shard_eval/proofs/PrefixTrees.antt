@@ -17,21 +17,20 @@ use Rattle.uni_base.specs.RankOrder.{doc_cmp}
 use Rattle.uni_base.proofs.RankedLemmas.{is_eq_swap, same_from_is_eq}
 use Rattle.uni_base.proofs.UnitedLemmas.{IsRanked-united}
 use Rattle.query_tree.specs.declared.kind.ListKind.TheVariants.{Or}
-use Rattle.posting_lists.specs.declared.posting.Posting.{Posting}
 use Rattle.posting_lists.specs.Postings.{keys_of}
 use Rattle.layer_stack.specs.declared.place.Place.{Place}
 use Rattle.layer_stack.specs.Places.{term_of}
-use Rattle.layer_stack.specs.Postings.{PostingTable, is_under, place_of, posting_of, postings_of}
+use Rattle.layer_stack.specs.Postings.{PostingTable, is_under, posting_of}
 use Rattle.layer_stack.proofs.Terms.{get-under, keyed}
 use Rattle.prefix_terms.specs.PrefixCursors.{PrefixPostings, all_postings, audience_of, word_postings}
 use Rattle.prefix_terms.specs.PrefixWords.{prefix_words}
 use Rattle.lineage_tree.specs.Tree.{Tree}
-use Rattle.shard_eval.specs.Found.{Found, found_from, found_keys, found_posting, found_term, is_at, tree_at, trees_at, KeepsLater}
+use Rattle.shard_eval.specs.Found.{Found, first_at, found_from, found_keys, found_posting, found_term, is_at, tree_at, trees_at, KeepsLater}
 use Rattle.shard_eval.specs.Grouped.{by_any, found_any}
 use Rattle.shard_eval.specs.Kept.{found_at}
 use Rattle.shard_eval.specs.Resolution.{found_prefix, found_words, leaf_of}
 use Rattle.shard_eval.specs.Witnesses.{found_words_left, word_tree, word_trees}
-use Rattle.shard_eval.proofs.FoundLists.{first_at, keeps_from, tree_here}
+use Rattle.shard_eval.proofs.FoundLists.{keeps_from, tree_here}
 use Rattle.shard_eval.proofs.KeptRanked.{keys_of_list}
 use Rattle.shard_eval.proofs.PostingLists.{keys_of_term}
 

@@ -1,20 +1,20 @@
 -- What is found in rank order, with one hit for each run of a key.
-use Rattle.std.proofs.Common.{◌≡◌, ℕ, zero, suc, ◌<◌, ◌≤◌, ◌+◌, Bool, true, false, cond, not, ◌||◌, ◌&&◌, List, [], ◌∷◌, ◌++◌, All, filter, map, take, drop, length, get_or, refl, sym, ◌∙◌, ap, subst, arith, true≢false, append-nil}
+use Rattle.std.proofs.Common.{◌≡◌, ℕ, zero, suc, ◌<◌, ◌≤◌, ◌+◌, Bool, true, false, cond, ◌||◌, List, [], ◌∷◌, ◌++◌, All, filter, map, take, drop, length, get_or, refl, sym, ◌∙◌, ap, subst, arith, true≢false, append-nil}
 use Rattle.std.specs.List.{AllByRecursion}
 use Rattle.std.specs.Ordering.{is_eq, is_lt}
 use Rattle.std.specs.List.Sorted.{IsSortedByKey}
 use Rattle.std.specs.declared.cmp.Ordering.{Ordering}
 use Rattle.std.specs.declared.cmp.Ordering.TheVariants.{Less, Equal, Greater}
 use Rattle.std.proofs.lemmas.List.{map-append}
-use Rattle.std.proofs.lemmas.List.Elements.{All-cons, All-head, All-map, All-nil, All-tail, filter-append}
+use Rattle.std.proofs.lemmas.List.Elements.{All-head, All-map, All-nil, All-tail, filter-append}
 use Rattle.std.proofs.lemmas.List.Sorted.{ranks_by, sorted_far}
 use Rattle.uni_base.specs.declared.entity.DocKey.{DocKey}
-use Rattle.uni_base.specs.Cursors.{is_before, is_less, IsRanked}
+use Rattle.uni_base.specs.Cursors.{is_before, is_less}
 use Rattle.uni_base.specs.KeySets.{has_key}
 use Rattle.uni_base.specs.RankOrder.{doc_cmp}
 use Rattle.uni_base.proofs.RankedLemmas.{IsBeforeAll, IsBeforeAll-cons, IsBeforeAll-head, IsBeforeAll-tail, Standing, standing, before, same, after, doc_total, has_key-append, has_key-before, is_before_self, is_before_trans_right, is_eq_self, same_from_is_eq, same_from_keys}
 use Rattle.shard_eval.specs.Found.{Found, found_keys, is_at}
-use Rattle.shard_eval.specs.Grouped.{by_any, group_at, grouped, keys_once, run_length, trees_under, Rises}
+use Rattle.shard_eval.specs.Grouped.{by_any, group_at, grouped, keys_once, run_length, Rises}
 use Rattle.shard_eval.proofs.Groups.{has_key-once, none_under, once_ranked, or_none, or_true}
 
 -- ---- one run, and what comes after it

@@ -41,6 +41,11 @@ abbrev pub tree_at : List Found → DocKey → Option Tree
 tree_at [] k = None
 tree_at (f ∷ fs) k = if is_at k f then Some f.tree else tree_at fs k
 
+-- the tree of the first that is found, if it is at a key
+abbrev pub first_at : DocKey → List Found → Option Tree
+first_at k [] = None
+first_at k (f ∷ fs) = if is_at k f then Some f.tree else None
+
 -- the trees of an entity in several lists, in their order: of those that have it
 abbrev pub trees_at : List (List Found) → DocKey → List Tree
 trees_at lists k = filter_map (λ fs. tree_at fs k) lists

@@ -7,11 +7,12 @@ use Rattle.uni_base.specs.KeySets.{united}
 use Rattle.shard_eval.specs.declared.operand.Side.{Side}
 use Rattle.shard_eval.specs.declared.operand.Side.TheVariants.{First, Others}
 use Rattle.shard_eval.specs.declared.operand.Operand.{Operand}
-use Rattle.shard_eval.specs.declared.operand.Operand.TheVariants.{Term, Prefix, Hits}
+use Rattle.shard_eval.specs.declared.operand.Operand.TheVariants.{Term, Prefix, Any, Hits}
 
 abbrev pub keys_in : Operand → List DocKey
 keys_in (Term postings) = keys_of postings
 keys_in (Prefix postings) = united postings.lists
+keys_in (Any operands) = united (map keys_of operands)
 keys_in (Hits keys) = keys
 
 -- the same of a side of a difference

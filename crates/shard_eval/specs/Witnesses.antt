@@ -6,15 +6,13 @@ use Rattle.uni_base.specs.declared.edge.Audience.{Audience}
 use Rattle.uni_base.specs.declared.edge.Key.TheVariants.{Word}
 use Rattle.uni_base.specs.declared.entity.DocKey.{DocKey}
 use Rattle.uni_base.specs.KeySets.{united}
-use Rattle.layer_stack.specs.Postings.{PostingTable}
 use Rattle.prefix_terms.specs.PrefixCursors.{PrefixPostings, audience_of}
 use Rattle.lineage_tree.specs.Tree.{Tree, edge}
-use Rattle.shard_eval.specs.declared.prefix.PrefixWitness.{PrefixWitness}
 use Rattle.shard_eval.specs.declared.witness.Postings.{Postings}
 use Rattle.shard_eval.specs.declared.witness.Witness.{Witness}
-use Rattle.shard_eval.specs.declared.witness.Witness.TheVariants.{Term, Prefix, Hits}
+use Rattle.shard_eval.specs.declared.witness.Witness.TheVariants.{Term, Prefix, Any, Hits}
 use Rattle.shard_eval.specs.Found.{Found, found_all, found_posting, held_by}
-use Rattle.shard_eval.specs.Grouped.{by_any}
+use Rattle.shard_eval.specs.Grouped.{by_any, found_any}
 
 abbrev pub found_postings : Postings → List Found
 found_postings p = map (found_posting p.leaf) p.cursor
@@ -34,4 +32,5 @@ found_words_left number c = map (λ k. by_any k (word_trees number c k)) (united
 abbrev pub found_in : Witness → List Found
 found_in (Term postings) = found_postings postings
 found_in (Prefix words) = found_words_left words.type_no words.cursor
+found_in (Any terms) = found_any (map found_postings terms.items)
 found_in (Hits hits) = found_all hits.items

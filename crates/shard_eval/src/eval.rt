@@ -7,6 +7,7 @@ ghost use Rattle.shard_eval.specs.Resolution.{all_found, found, marks_of, nodes_
 ghost use Rattle.shard_eval.specs.Resolution.Resolution.{list_node};
 ghost use Rattle.shard_eval.specs.Sources.{found_by, found_lists, source_marks};
 
+use crate::any::few_terms;
 use crate::joins::{joined_hits, listed_hits, prefix_hits};
 use crate::leaf::Leaf;
 use crate::list::list_hits;
@@ -69,8 +70,8 @@ fn eval_list(
     list_hits(alloc, stack, kind, sources, limit)
 }
 
-// The operands of a list: terms and prefix terms of few words as they are, and all hits of any other
-// node.
+// The operands of a list: terms, prefix terms of few words and any of a few terms as they are, and all hits of any
+// other node.
 #[cycle(eval)]
 fn sources(
     alloc: Global,
@@ -98,6 +99,10 @@ fn source(alloc: Global, stack: &Stack, node: &Resolved) -> Result<Source, Alloc
     match node {
         Resolved::Term { type_no, key } => Ok(Source::Term(Leaf::of(*type_no, *key))),
         Resolved::Prefix { type_no, from } => prefix_source(alloc, stack, *type_no, from),
+        Resolved::Or(operands) => match few_terms(alloc, operands)? {
+            Some(leaves) => Ok(Source::Any(leaves)),
+            None => Ok(Source::Hits(eval(alloc, stack, node, None)?)),
+        },
         _ => Ok(Source::Hits(eval(alloc, stack, node, None)?)),
     }
 }

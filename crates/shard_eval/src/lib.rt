@@ -1,6 +1,7 @@
 //! What a shard has of a query: its first hits, each with the tree of its lineages.
 #![tactic(auto)]
 
+mod any;
 mod eval;
 mod grouped;
 mod joins;

@@ -72,11 +72,12 @@ fn comes_before(hit: &RawHit, key: &DocKey) -> bool
     hit.key < *key
 }
 
-/// An operand of a list: the postings of a term or of a prefix term, or hits.
+/// An operand of a list: the postings of a term, of a prefix term or of any of some terms, or hits.
 #[derive(Drop)]
 pub(crate) enum Operand<'a> {
     Term(StackCursor<'a>),
     Prefix(PrefixCursor<'a>),
+    Any(OrCursor<StackCursor<'a>>),
     Hits(HitCursor<'a>),
 }
 
@@ -89,6 +90,7 @@ impl<'a> DocCursor for Operand<'a> {
         match self {
             Operand::Term(cursor) => cursor.peek(),
             Operand::Prefix(cursor) => cursor.peek(),
+            Operand::Any(cursor) => cursor.peek(),
             Operand::Hits(cursor) => cursor.peek(),
         }
     }
@@ -97,6 +99,7 @@ impl<'a> DocCursor for Operand<'a> {
         match self {
             Operand::Term(cursor) => cursor.step(),
             Operand::Prefix(cursor) => cursor.step(),
+            Operand::Any(cursor) => cursor.step(),
             Operand::Hits(cursor) => cursor.step(),
         }
     }
@@ -105,6 +108,7 @@ impl<'a> DocCursor for Operand<'a> {
         match self {
             Operand::Term(cursor) => cursor.seek(from),
             Operand::Prefix(cursor) => cursor.seek(from),
+            Operand::Any(cursor) => cursor.seek(from),
             Operand::Hits(cursor) => cursor.seek(from),
         }
     }

@@ -9,6 +9,7 @@ ghost use Rattle.shard_eval.specs.Sources.{found_by, found_lists, source_marks, 
 ghost use Rattle.shard_eval.specs.Witnesses.{found_in};
 ghost use Rattle.uni_base.specs.Cursors.{IsRanked};
 
+use crate::any::{cursors_of, postings_of};
 use crate::joins::prefix_hits;
 use crate::kept::Marked;
 use crate::leaf::Leaf;
@@ -19,6 +20,7 @@ use layer_stack::Stack;
 use lineage_tree::HitRows;
 use prefix_terms::prefix_cursor;
 use query_tree::Mark;
+use set_cursors::OrCursor;
 use std::alloc::{AllocError, Global};
 use std::collections::VecDeque;
 use uni_base::Word;
@@ -27,11 +29,12 @@ use uni_base::Word;
 // them, so with more it is dearer than to sort once what they lead to.
 const FEW_WORDS: usize = 64;
 
-/// An operand of a list: a term, a prefix term of few words, or the hits of another node.
+/// An operand of a list: a term, a prefix term of few words, any of a few terms, or the hits of another node.
 #[derive(Drop)]
 pub(crate) enum Source {
     Term(Leaf),
     Prefix { type_no: u16, from: Word },
+    Any(Vec<Leaf>),
     Hits(HitRows),
 }
 
@@ -45,6 +48,10 @@ impl Source {
             Source::Term(leaf) => Ok(Operand::Term(stack.cursor(alloc, &leaf.term())?)),
             Source::Prefix { type_no, from } => {
                 Ok(Operand::Prefix(prefix_cursor(alloc, stack, *type_no, from)?))
+            }
+            Source::Any(leaves) => {
+                let cursors = cursors_of(alloc, stack, leaves.as_slice())?;
+                Ok(Operand::Any(OrCursor::new(cursors)))
             }
             Source::Hits(hits) => Ok(Operand::Hits(HitCursor::over(hits.as_slice()))),
         }
@@ -63,6 +70,7 @@ impl Source {
                 let cursor = prefix_cursor(alloc, stack, type_no, &from)?;
                 Ok(Witness::Prefix(PrefixWitness { type_no, cursor }))
             }
+            Source::Any(leaves) => Ok(Witness::Any(postings_of(alloc, stack, leaves.as_slice())?)),
             Source::Hits(hits) => Ok(Witness::Hits(VecDeque::from(hits.into_vec()))),
         }
     }

@@ -2,10 +2,11 @@
 ghost use Rattle.std.specs.Prelude.{◌≡◌, IfOk};
 ghost use Rattle.std.specs.Option.{option_map};
 ghost use Rattle.lineage_tree.specs.Tree.{tree_of};
-ghost use Rattle.shard_eval.specs.Found.{found_all, found_from, found_keys, hit_keys, tree_at, KeepsLater};
+ghost use Rattle.shard_eval.specs.Found.{first_at, found_all, found_from, found_keys, hit_keys, tree_at, KeepsLater};
 ghost use Rattle.shard_eval.specs.Witnesses.{found_in, found_postings};
 ghost use Rattle.uni_base.specs.Cursors.{IsRanked};
 
+use crate::any::any_at;
 use crate::leaf::Leaf;
 use crate::prefix::PrefixWitness;
 use layer_stack::StackCursor;
@@ -24,23 +25,44 @@ pub(crate) struct Postings<'a> {
 impl<'a> Postings<'a> {
     // The tree of a posting at a key. What stands before it is passed.
     fn tree_at(&mut self, alloc: Global, key: DocKey) -> Result<Option<Lineage>, AllocError>
-        requires { IsRanked (found_keys (found_postings self.old)) }
         ensures tree { IfOk result (λ tree. option_map tree_of tree ≡ tree_at (found_postings self.old) key) }
         ensures rest { KeepsLater key (found_postings self.old) (found_postings self.new) }
     {
-        self.cursor.seek(key);
+        self.pass_before(&key);
+        self.tree_here(alloc, &key)
+    }
+
+    /// Passes what stands before a key.
+    pub(crate) fn pass_before(&mut self, key: &DocKey)
+        ensures rest { found_postings self.new ≡ found_from key.now (found_postings self.old) }
+        ensures ranked { IsRanked (found_keys (found_postings self.old)) }
+    {
+        let _ranked = self.cursor.peek();
+        self.cursor.seek(*key);
+    }
+
+    /// The tree of the first posting, if it is at a key.
+    pub(crate) fn tree_here(
+        &self,
+        alloc: Global,
+        key: &DocKey,
+    ) -> Result<Option<Lineage>, AllocError>
+        ensures { IfOk result (λ tree. option_map tree_of tree ≡ first_at key.now (found_postings self.now)) }
+    {
         match self.cursor.posting() {
-            Some(posting) if posting.key == key => Ok(Some(self.leaf.tree(alloc, posting)?)),
+            Some(posting) if posting.key == *key => Ok(Some(self.leaf.tree(alloc, posting)?)),
             _ => Ok(None),
         }
     }
 }
 
-/// What an operand finds and is still to come: the postings of a term or of a prefix term, or hits.
+/// What an operand finds and is still to come: the postings of a term, of a prefix term or of any of some terms, or
+/// hits.
 #[derive(Drop)]
 pub(crate) enum Witness<'a> {
     Term(Postings<'a>),
     Prefix(PrefixWitness<'a>),
+    Any(Vec<Postings<'a>>),
     Hits(VecDeque<RawHit>),
 }
 
@@ -58,6 +80,7 @@ impl<'a> Witness<'a> {
         match self {
             Witness::Term(postings) => postings.tree_at(alloc, key),
             Witness::Prefix(postings) => postings.tree_at(alloc, key),
+            Witness::Any(terms) => any_at(alloc, terms, key),
             Witness::Hits(hits) => Ok(hit_at(hits, key)),
         }
     }

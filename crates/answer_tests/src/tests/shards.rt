@@ -141,11 +141,23 @@ fn two(
     Ok(operands)
 }
 
-// Friends of user 1 with those who live in Rome or Roma, under an operator.
-fn listed(alloc: Global, kind: ListKind) -> Result<Resolved, Fail>
+// Friends of user 1, and with `both` also those of user 2.
+fn friends_of(alloc: Global, both: bool) -> Result<Resolved, Fail>
     ensures { IfOk result (λ query. IsReady (resolution query)) }
 {
     let first = friends(b"1").ok_or("no term")?;
+    if !both {
+        return Ok(first);
+    }
+    let second = friends(b"2").ok_or("no term")?;
+    Ok(Resolved::Or(two(alloc, first, Mark::Plain, second)?))
+}
+
+// Friends of user 1, or of users 1 and 2, with those who live in Rome or Roma, under an operator.
+fn listed(alloc: Global, kind: ListKind, both: bool) -> Result<Resolved, Fail>
+    ensures { IfOk result (λ query. IsReady (resolution query)) }
+{
+    let first = friends_of(alloc, both)?;
     let second = live_in(b"rom").ok_or("no term")?;
     let operands = two(alloc, first, mark(kind), second)?;
     Ok(match kind {
@@ -158,19 +170,25 @@ fn listed(alloc: Global, kind: ListKind) -> Result<Resolved, Fail>
 }
 
 // Whether a list over these layers has the hits of these ids.
-fn is_found(alloc: Global, layers: &[u8], kind: ListKind, ids: &[u8]) -> Result<bool, Fail> {
-    let query = listed(alloc, kind)?;
+fn is_found(
+    alloc: Global,
+    layers: &[u8],
+    kind: ListKind,
+    both: bool,
+    ids: &[u8],
+) -> Result<bool, Fail> {
+    let query = listed(alloc, kind, both)?;
     let index = index(alloc, layers)?;
     let hits = eval_shard(alloc, &index, &query, 9)?;
     Ok(are_of(&hits, ids))
 }
 
 // Fails where a list has other hits, over one layer or over three.
-fn finds(alloc: Global, kind: ListKind, ids: &[u8]) -> Result<(), Fail> {
-    if !is_found(alloc, ROWS, kind, ids)? {
+fn finds(alloc: Global, kind: ListKind, both: bool, ids: &[u8]) -> Result<(), Fail> {
+    if !is_found(alloc, ROWS, kind, both, ids)? {
         return Err("over one layer")?;
     }
-    if !is_found(alloc, LAYERS, kind, ids)? {
+    if !is_found(alloc, LAYERS, kind, both, ids)? {
         return Err("over three")?;
     }
     Ok(())
@@ -178,11 +196,20 @@ fn finds(alloc: Global, kind: ListKind, ids: &[u8]) -> Result<(), Fail> {
 
 #[test]
 fn lists(rt: HostRuntime) -> Result<(), Fail> {
-    finds(rt.alloc(), ListKind::And, b"2,3,5")?;
-    finds(rt.alloc(), ListKind::Or, b"2,3,5,6,4")?;
-    finds(rt.alloc(), ListKind::Difference, b"")?;
-    finds(rt.alloc(), ListKind::WeakAnd, b"2,3,5,6")?;
-    finds(rt.alloc(), ListKind::StrongOr, b"2,3,5")
+    finds(rt.alloc(), ListKind::And, false, b"2,3,5")?;
+    finds(rt.alloc(), ListKind::Or, false, b"2,3,5,6,4")?;
+    finds(rt.alloc(), ListKind::Difference, false, b"")?;
+    finds(rt.alloc(), ListKind::WeakAnd, false, b"2,3,5,6")?;
+    finds(rt.alloc(), ListKind::StrongOr, false, b"2,3,5")
+}
+
+#[test]
+fn lists_over_any_of_two_terms(rt: HostRuntime) -> Result<(), Fail> {
+    finds(rt.alloc(), ListKind::And, true, b"2,3,5")?;
+    finds(rt.alloc(), ListKind::Or, true, b"2,3,5,6,1,4")?;
+    finds(rt.alloc(), ListKind::Difference, true, b"1")?;
+    finds(rt.alloc(), ListKind::WeakAnd, true, b"2,3,5,6")?;
+    finds(rt.alloc(), ListKind::StrongOr, true, b"2,3,5,1")
 }
 
 fn inner(rank: &[u8], id: &[u8], entry: u32) -> Option<InnerHit> {

@@ -7,9 +7,9 @@ use Rattle.shard_eval.specs.declared.resolved.ResolvedOperand.{ResolvedOperand}
 use Rattle.shard_eval.specs.declared.source.Source.{Source}
 use Rattle.shard_eval.specs.Found.{Found}
 use Rattle.shard_eval.specs.Kept.{IsShare}
-use Rattle.shard_eval.specs.Resolution.{Resolution, all_found, listing_of, marks_of, found_listing, nodes_of, operand_of, resolution, listed_node, AreReady, IsReady}
+use Rattle.shard_eval.specs.Resolution.{Resolution, all_found, listing_of, marks_of, nodes_of, operand_of, resolution, listed_node, AreReady, IsReady}
 use Rattle.shard_eval.specs.Sources.{found_by, found_lists, source_marks, AreRanked}
-use Rattle.shard_eval.proofs.FoundRanked.{all_ranked, joined_ranked, listed_ranked, marks_ready, prefix_ranked}
+use Rattle.shard_eval.proofs.FoundRanked.{all_ranked, marks_ready}
 use Rattle.shard_eval.proofs.ResolvedNodes.{all_append, marks_append, operand_is, ready_at, seen_listed, size, sizes, smaller_at}
 use Rattle.shard_eval.proofs.eval.+eval.Goals as goal
 

@@ -1,9 +1,9 @@
-use Rattle.std.proofs.Common.{◌≡◌, ◌≤◌, ◌+◌, ◌++◌, ◌∷◌, [], false, Some, List, length, map, take, drop, get_or, slice_get, ap, subst, sym, ◌∙◌, arith}
+use Rattle.std.proofs.Common.{◌≡◌, ◌≤◌, ◌+◌, ◌++◌, ◌∷◌, [], false, List, length, map, take, drop, get_or, ap, subst, sym, ◌∙◌, arith}
 use Rattle.std.proofs.lemmas.List.{drop-drop, length-append, length-drop}
 use Rattle.lineage_tree.specs.declared.lineage.RawHit.{RawHit}
 use Rattle.shard_eval.specs.declared.grouped.Place.{Place}
-use Rattle.shard_eval.specs.Found.{Found, found_all, found_of}
-use Rattle.shard_eval.specs.Grouped.{by_any, grouped, run_length, Rises}
+use Rattle.shard_eval.specs.Found.{found_all, found_of}
+use Rattle.shard_eval.specs.Grouped.{grouped, run_length, Rises}
 use Rattle.shard_eval.specs.Kept.{is_full, IsWithin}
 use Rattle.shard_eval.specs.Reached.{found_place}
 use Rattle.shard_eval.proofs.FirstKeys.{enough_hit, no_more_hits}

@@ -1,5 +1,4 @@
-use Rattle.std.proofs.Common.{◌≡◌, ℕ, List, IfOk, map, ap, subst, ◌∙◌}
-use Rattle.shard_eval.specs.declared.reached.Listed.{Listed}
+use Rattle.std.proofs.Common.{◌≡◌, List, IfOk, map, ap, subst, ◌∙◌}
 use Rattle.shard_eval.specs.declared.reached.Reached.{Reached}
 use Rattle.shard_eval.specs.Found.{Found, found_all}
 use Rattle.shard_eval.specs.Grouped.{firsts, grouped}

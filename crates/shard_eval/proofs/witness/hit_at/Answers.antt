@@ -2,8 +2,8 @@ use Rattle.std.proofs.Common.{◌≡◌, ◌<◌, true, false, cond, None, Some,
 use Rattle.std.proofs.lemmas.Bool.{cases_lt}
 use Rattle.uni_base.specs.Cursors.{IsRanked}
 use Rattle.lineage_tree.specs.declared.lineage.RawHit.{RawHit}
-use Rattle.shard_eval.specs.Found.{found_all, found_of, is_at, KeepsLater}
-use Rattle.shard_eval.proofs.FoundLists.{first_at, keeps_from, same_place, tree_here}
+use Rattle.shard_eval.specs.Found.{first_at, found_all, found_of, is_at, KeepsLater}
+use Rattle.shard_eval.proofs.FoundLists.{keeps_from, same_place, tree_here}
 use Rattle.shard_eval.proofs.HitLists.{first_hit, keeps_rest, keys_all, no_hit}
 use Rattle.shard_eval.proofs.witness.hit_at.Goals as goal
 use Rattle.shard_eval.proofs.witness.hit_at.Goals.{in_default-via-in-Some+else-eq, in_default-via-in_default}

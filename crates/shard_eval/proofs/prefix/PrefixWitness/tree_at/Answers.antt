@@ -1,5 +1,4 @@
-use Rattle.std.proofs.Common.{◌≡◌, true, false, cond, None, Some, slice_get, ap, subst, sym, ◌∙◌}
-use Rattle.uni_base.specs.KeySets.{united}
+use Rattle.std.proofs.Common.{◌≡◌, true, false, cond, None, Some, ap, subst, sym, ◌∙◌}
 use Rattle.uni_base.specs.declared.entity.DocKey.{DocKey}
 use Rattle.uni_base.proofs.RankedLemmas.{same_from_is_eq}
 use Rattle.lineage_tree.specs.Tree.{Tree, any_of, forest_of}
