@@ -20,7 +20,8 @@ pub fn merge_top(alloc: Global, parts: Vec<HitRows>, limit: u32) -> Result<HitRo
     Ok(HitRows::from_vec(hits))
 }
 
-// All hits in rank order. Those of one part alone are in order as they stand.
+// All hits in rank order, by a sort that merges runs, as each part is one. Those of one part alone are in order as they
+// stand.
 fn in_order(alloc: Global, parts: Vec<HitRows>) -> Result<Vec<RawHit>, AllocError>
     requires ranked { AllByRecursion (λ part. IsRanked (keys_of part)) parts.items }
     requires apart { AreApart (map keys_of parts.items) }
@@ -31,7 +32,7 @@ fn in_order(alloc: Global, parts: Vec<HitRows>) -> Result<Vec<RawHit>, AllocErro
     if is_alone {
         return Ok(hits);
     }
-    hits.sort_unstable_by_key(|hit| hit.key);
+    hits.sort_by_key(|hit| hit.key)?;
     Ok(hits)
 }
 

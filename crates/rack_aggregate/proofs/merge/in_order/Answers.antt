@@ -14,7 +14,7 @@ returns-then-is_alone c =
 
 pub returns : goal.returns
 returns c =
-    let sorted = c.sort_unstable_by_key.new.self.items in
-    let up : IsSortedByKey (λ (h : RawHit). h.key) doc_cmp sorted = c.sort_unstable_by_key.ensures.sorted (λ (h : RawHit). h.key) (answers_always _ _ _ (λ f a r g k. search rules)) in
+    let sorted = c.sort_by_key.new.self.items in
+    let up : IsSortedByKey (λ (h : RawHit). h.key) doc_cmp sorted = (c.in_ok-sort_by_key.ensures {u = tt}).sorted (λ (h : RawHit). h.key) (answers_always _ _ _ (λ f a r g k. search rules)) in
     sorted_hits c.args.parts.items sorted c.requires.ranked c.requires.apart
-    (subst (λ (hs : List RawHit). IsPermutation hs sorted) c.in_ok-hits.ensures c.sort_unstable_by_key.ensures.permutation) up
+    (subst (λ (hs : List RawHit). IsPermutation hs sorted) c.in_ok-hits.ensures c.sort_by_key.ensures.permutation) up
