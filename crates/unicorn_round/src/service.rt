@@ -117,6 +117,7 @@ impl Service {
             &mut compactor,
             parts,
             answers,
+            workers,
             gate,
         )?;
         let service = Service {

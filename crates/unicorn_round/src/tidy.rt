@@ -1,5 +1,5 @@
 //! The end of a round: stacks that are due are compacted, and the answers are put together.
-ghost use Rattle.std.specs.Prelude.{◌≡◌, ◌+◌, ◌*◌, ◌^◌, ◌<◌, ◌++◌, IfOk, OnOk, filter, length, map};
+ghost use Rattle.std.specs.Prelude.{◌≡◌, ◌+◌, ◌*◌, ◌^◌, ◌<◌, ◌≤◌, ◌++◌, IfOk, OnOk, filter, length, map};
 ghost use Rattle.std.specs.List.{AllByRecursion};
 ghost use Rattle.round_feed.specs.Seats.{HasCompacted, MayCompact};
 ghost use Rattle.unicorn_round.specs.Ending.{IsEnded};
@@ -26,6 +26,9 @@ use std::sync::Wait;
 use std::thread::Threads;
 use version_catalog::{Catalogue, Compactor, Feeder, Pinned, StackId};
 
+/// How many shards are merged at once at most.
+const MOST_MERGES: u32 = 3;
+
 /// Ends a round whose lines were worked on: all its answers, of which the last are those of the stacks that were
 /// due.
 pub(crate) fn end_round<R: Threads + Wait + Sync, G: Gate>(
@@ -36,8 +39,10 @@ pub(crate) fn end_round<R: Threads + Wait + Sync, G: Gate>(
     compactor: &mut Compactor,
     parts: Parts,
     answers: RoundAnswers,
+    workers: u32,
     gate: &G,
 ) -> Result<AnswerList, AllocError>
+    requires workers { 1 ≤ workers }
     requires feeder { IsFeederOf catalogue.now feeder.old }
     requires few { length (feeder_journal feeder.old) < 2 ^ 63 }
     requires compactor { MayCompact catalogue.now 8194 compactor.old }
@@ -51,7 +56,7 @@ pub(crate) fn end_round<R: Threads + Wait + Sync, G: Gate>(
 {
     tell_compactor(catalogue, feeder, compactor);
     let made = feeder.publishes();
-    let (tidied, stacks) = tidy_due(rt, alloc, catalogue, compactor, made, gate)?;
+    let (tidied, stacks) = tidy_due(rt, alloc, catalogue, compactor, made, workers, gate)?;
     hear_compactor(catalogue, feeder, compactor);
     put_together(alloc, parts, answers, &stacks, made, tidied)
 }
@@ -63,8 +68,10 @@ fn tidy_due<R: Threads + Wait + Sync, G: Gate>(
     catalogue: &Catalogue,
     compactor: &mut Compactor,
     made: u64,
+    workers: u32,
     gate: &G,
 ) -> Result<(Vec<Answer>, Stacks), AllocError>
+    requires workers { 1 ≤ workers }
     requires few { made < 2 ^ 63 }
     requires compactor { MayCompact catalogue.now 8194 compactor.old }
     ensures compactor { HasCompacted catalogue.now 8194 compactor.old compactor.new }
@@ -76,7 +83,7 @@ fn tidy_due<R: Threads + Wait + Sync, G: Gate>(
     if due.is_empty() {
         return Ok((Vec::new(alloc), before));
     }
-    let pinned = tidy_stacks(rt, alloc, catalogue, compactor, due.as_slice())?;
+    let pinned = tidy_stacks(rt, alloc, catalogue, compactor, due.as_slice(), workers)?;
     let version = pinned.version();
     let answers = tidied_in(rt, alloc, version, &before, due.as_slice(), made, gate)?;
     let after = Stacks::of_version(alloc, version)?;
@@ -142,7 +149,7 @@ fn put_together(
     Ok(AnswerList::from_vec(said))
 }
 
-// Compacts stacks, one shard after the other, so that what is merged stands beside few of those that it replaces. It
+// Compacts stacks, those of a few shards at once, so that what is merged stands beside few of those that it replaces. It
 // gives the newest version after that.
 fn tidy_stacks<R: Threads + Wait + Sync>(
     rt: &R,
@@ -150,7 +157,9 @@ fn tidy_stacks<R: Threads + Wait + Sync>(
     catalogue: &Catalogue,
     compactor: &mut Compactor,
     due: &[StackCover],
+    workers: u32,
 ) -> Result<Pinned, AllocError>
+    requires workers { 1 ≤ workers }
     requires compactor { MayCompact catalogue.now (2 * length due.now + 1) compactor.old }
     requires stacks { AllByRecursion (IsStackOf (settings_of catalogue.now).schema) due.now }
     ensures compactor { HasCompacted catalogue.now (2 * length due.now + 1) compactor.old compactor.new }
@@ -159,7 +168,7 @@ fn tidy_stacks<R: Threads + Wait + Sync>(
     ensures layers { IfOk result (IsLayered (settings_of catalogue.now).schema (compactor_installs compactor.new) (length (compactor_journal compactor.new))) }
 {
     let ids = ids_of(alloc, due)?;
-    catalogue.compact_stacks(rt, compactor, &ids, 1)
+    catalogue.compact_stacks(rt, compactor, &ids, workers.min(MOST_MERGES))
 }
 
 // The stacks by their numbers.
