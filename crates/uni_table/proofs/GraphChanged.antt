@@ -1,6 +1,6 @@
 -- Which entities and edges differ, by their rows.
 use Rattle.std.proofs.Common.{◌≡◌, ◌≢◌, ◌⊎◌, ◌<◌, ◌==◌, ◌||◌, not, if◌then◌else◌, inl, inr, ⊎_elim, ℕ, zero, suc, Bool, true, false, List, [], ◌∷◌, Option, None, Some, refl, sym, ◌∙◌, ap, subst, length, map, slice_get, nat_eq, arith, true≢false}
-use Rattle.std.specs.List.{AllByRecursion, Contains, IsDistinct, filter_map, cons_option}
+use Rattle.std.specs.List.{AllByRecursion, Contains, IsDistinct, filter_map, cons_option, range_with_len}
 use Rattle.std.specs.Map.{keys_of, lookup}
 use Rattle.std.specs.BTreeMap.{is_at}
 use Rattle.std.specs.Cmp.{IsEquivalence, nat_cmp_total}
@@ -11,14 +11,14 @@ use Rattle.std.proofs.lemmas.Cmp.{eq_by_cmp_equiv}
 use Rattle.std.proofs.lemmas.Map.{NonePasses, lookup-none, none_passes_from_lookup}
 use Rattle.std.proofs.lemmas.Map.Entries.{length-keys_of, lookup_from_place, place_from_lookup}
 use Rattle.std.proofs.lemmas.Map.Made.{lookup-map_values, keys_of-map_values}
-use Rattle.std.proofs.lemmas.Option.{slice_get-map, slice_get-get_or, get_or_from_slice_get}
+use Rattle.std.proofs.lemmas.Option.{slice_get-map, slice_get-get_or, get_or_from_slice_get, slice_get_within}
 use Rattle.chained_rows.proofs.Ordered.{lookup-ordered, joined}
 use Rattle.uni_base.specs.declared.entity.Rank.{Rank}
 use Rattle.uni_base.specs.declared.edge.EdgeRef.{EdgeRef}
 use Rattle.uni_base.specs.EdgeOrder.{edge_cmp}
 use Rattle.uni_table.specs.Changes.{HasEntityChanges, HasEdgeChanges, IsEntityChange, IsEdgeChange, rank_at}
-use Rattle.uni_table.specs.Contents.{entity_at, edge_at}
-use Rattle.uni_table.specs.GraphChanges.{AreAffected, entity_change, entity_change_at, edge_change, edge_change_at, change_of, is_other_entity, is_changed_entity, is_other, is_changed, is_affected, no_ranks, rank_differs, rank_of, ranks_at, ranks_of, moved_at}
+use Rattle.uni_table.specs.Contents.{empty, entity_at, edge_at}
+use Rattle.uni_table.specs.GraphChanges.{AreAffected, entity_change, entity_change_at, entity_put, put_at, edge_change, edge_change_at, change_of, is_other_entity, is_changed_entity, is_other, is_changed, is_affected, no_ranks, rank_differs, rank_of, ranks_at, ranks_of, moved_at}
 use Rattle.uni_table.specs.GraphKeys.{source_eq, edge_total, exact_edges}
 use Rattle.uni_table.specs.GraphRows.{IsRows, IsCircleKnown, IsBeforeKnown, contents_of, published_of, slots_named, slot_named, slot_before, node_before, entity_before, entity_then_of, row_of, row_before, edge_named, source_named, circle_named, is_same_entity, is_live}
 use Rattle.uni_table.specs.declared.change.EntityChange.{EntityChange}
@@ -42,6 +42,7 @@ use Rattle.uni_table.proofs.GraphLed.{affected-cases}
 use Rattle.uni_table.proofs.GraphNames.{same-place, source_equiv}
 use Rattle.uni_table.proofs.GraphPlaces.{entry-at, key-at, same-number}
 use Rattle.uni_table.proofs.Compared.{equal_from}
+use Rattle.uni_table.proofs.Ranges.{in_range, range_apart}
 use Rattle.uni_table.proofs.TouchedRows.{agree, nat_equiv}
 
 module _ {X Y : Type 0} (f : X → Option Y) where
@@ -180,7 +181,7 @@ module _ (rows : Rows) (kept : IsRows rows) where
     found : lookup (nat_eq id) rows.ids.entries ≡ Some node
     found = lookup_from_place nat_equiv rows.ids.entries i id node kept.ids at
 
-    entity-now : entity_at (contents_of rows) id ≡ node.row
+    pub entity-now : entity_at (contents_of rows) id ≡ node.row
     entity-now = entity-there rows kept i id node at
 
     entity-before : entity_at (published_of rows) id ≡ entity_before node
@@ -239,6 +240,55 @@ module _ (rows : Rows) (kept : IsRows rows) where
     );
     apart = subst (λ eq. IsDistinct eq (map (λ change. change.id) (filter_map (entity_change_at rows) rows.touched_ids.items))) (sym agree)
         (picked-apart nat_equiv (keys_of rows.ids.entries) kept.ids (entity_change_at rows) (λ change. change.id) (λ i change is. (entity-sound i change is).1) rows.touched_ids.items kept.touched_ids.apart);
+  }
+
+-- ---- all entities, as changes of what holds none
+
+module _ (rows : Rows) (kept : IsRows rows) where
+  put-sound : (number : ℕ) (change : EntityChange) → put_at rows number ≡ Some change → IsEntityChange empty (contents_of rows) change × (slice_get (keys_of rows.ids.entries) number ≡ Some change.id)
+  put-sound number change is = by (slice_get rows.ids.entries number) refl is
+    where
+      told : (id : ℕ) (node : Node) → slice_get rows.ids.entries number ≡ Some (id, node) → (row : Option EntityRow) → node.row ≡ row
+          → option_map (λ (r : EntityRow). record { id = id; before = None; after = Some r }) row ≡ Some change
+          → IsEntityChange empty (contents_of rows) change × (slice_get (keys_of rows.ids.entries) number ≡ Some change.id)
+      told id node at None stands h = cc
+      told id node at (Some row) stands h =
+          let same : record { id = id; before = None; after = Some row } ≡ change = cc in
+          subst (λ (c : EntityChange). IsEntityChange empty (contents_of rows) c × (slice_get (keys_of rows.ids.entries) number ≡ Some c.id)) same
+          ((refl, sym (entity-now rows kept number id node at ∙ stands), (λ e. cc)), key-at rows.ids.entries number (id, node) at)
+
+      by : (o : Option (ℕ × Node)) → slice_get rows.ids.entries number ≡ o → option_and_then entity_put o ≡ Some change
+          → IsEntityChange empty (contents_of rows) change × (slice_get (keys_of rows.ids.entries) number ≡ Some change.id)
+      by None at h = cc
+      by (Some e) at h = told e.0 e.1 at e.1.row refl h
+
+  abbrev all_numbers : List ℕ
+  all_numbers = range_with_len 0 (length rows.ids.entries)
+
+  put-whole : (change : EntityChange) → IsEntityChange empty (contents_of rows) change → Contains (filter_map (put_at rows) all_numbers) change
+  put-whole change is = ⊎_elim there absent (id-place rows kept change.id)
+    where
+      absent : lookup (nat_eq change.id) rows.ids.entries ≡ None → Contains (filter_map (put_at rows) all_numbers) change
+      absent none = absurd (is.2 (is.0 ∙ sym (entity-none rows kept change.id none).0 ∙ sym is.1))
+
+      there : (i : ℕ) × (node : Node) × (slice_get rows.ids.entries i ≡ Some (change.id, node)) → Contains (filter_map (put_at rows) all_numbers) change
+      there p = by p.1.row refl
+        where
+          by : (row : Option EntityRow) → p.1.row ≡ row → Contains (filter_map (put_at rows) all_numbers) change
+          by None stands = absurd (is.2 (is.0 ∙ sym (is.1 ∙ entity-now rows kept p.0 change.id p.1 p.2 ∙ stands)))
+          by (Some row) stands =
+              picked-into (put_at rows) all_numbers p.0 change (in_range (length rows.ids.entries) p.0 (slice_get_within rows.ids.entries p.0 (change.id, p.1) p.2))
+              (ap (option_and_then entity_put) p.2 ∙ ap (option_map (λ (r : EntityRow). record { id = change.id; before = None; after = Some r })) stands
+              ∙ (λ j. Some (record { id = change.id; before = sym is.0 j; after = sym (is.1 ∙ entity-now rows kept p.0 change.id p.1 p.2 ∙ stands) j })))
+
+  pub all-put : HasEntityChanges empty (contents_of rows) (filter_map (put_at rows) (range_with_len 0 (length rows.ids.entries)))
+  all-put = record {
+    exact = λ change. (
+      (λ there. let p = picked-from (put_at rows) all_numbers change there in (put-sound p.0 change p.2).0),
+      put-whole change,
+    );
+    apart = subst (λ eq. IsDistinct eq (map (λ change. change.id) (filter_map (put_at rows) all_numbers))) (sym agree)
+        (picked-apart nat_equiv (keys_of rows.ids.entries) kept.ids (put_at rows) (λ change. change.id) (λ i change is. (put-sound i change is).1) all_numbers (range_apart 0 (length rows.ids.entries)));
   }
 
 named-at : (sources : List Source) (n : ℕ) → n < length sources → slice_get sources n ≡ Some (source_named sources n)
@@ -339,7 +389,7 @@ some-live sources Only end some = refl
 some-live sources (Circle n) end some = refl
 
 module _ (rows : Rows) (kept : IsRows rows) where
-  edge-place : (edge : EdgeRef) → ((i : ℕ) × (e : EdgeNo × Slot) × (slice_get rows.edges.entries i ≡ Some e) × (edge_named (keys_of rows.sources.entries) (keys_of rows.ids.entries) e.0 ≡ edge)) ⊎ NonePasses (is_at (edge_cmp edge)) (slots_named rows)
+  pub edge-place : (edge : EdgeRef) → ((i : ℕ) × (e : EdgeNo × Slot) × (slice_get rows.edges.entries i ≡ Some e) × (edge_named (keys_of rows.sources.entries) (keys_of rows.ids.entries) e.0 ≡ edge)) ⊎ NonePasses (is_at (edge_cmp edge)) (slots_named rows)
   edge-place edge = by (lookup (is_at (edge_cmp edge)) (slots_named rows)) refl
     where
       by : (o : Option (Option EdgeRow)) → lookup (is_at (edge_cmp edge)) (slots_named rows) ≡ o
@@ -353,7 +403,7 @@ module _ (rows : Rows) (kept : IsRows rows) where
   then-apart : IsDistinct (eq_by_cmp edge_cmp) (keys_of (map (slot_before (keys_of rows.sources.entries) (keys_of rows.ids.entries)) rows.edges.entries))
   then-apart = subst (IsDistinct (eq_by_cmp edge_cmp)) (sym (then-keys (keys_of rows.sources.entries) (keys_of rows.ids.entries) rows.edges.entries)) kept.edges
 
-  edge-none : (edge : EdgeRef) → NonePasses (is_at (edge_cmp edge)) (slots_named rows) → (edge_at (contents_of rows) edge ≡ None) × (edge_at (published_of rows) edge ≡ None)
+  pub edge-none : (edge : EdgeRef) → NonePasses (is_at (edge_cmp edge)) (slots_named rows) → (edge_at (contents_of rows) edge ≡ None) × (edge_at (published_of rows) edge ≡ None)
   edge-none edge none = (
     edge-missing rows kept edge none,
     lookup-ordered edge_total edge (map (slot_before (keys_of rows.sources.entries) (keys_of rows.ids.entries)) rows.edges.entries) then-apart
@@ -373,7 +423,7 @@ module _ (rows : Rows) (kept : IsRows rows) where
         (slice_get-map (slot_before (keys_of rows.sources.entries) (keys_of rows.ids.entries)) rows.edges.entries i ∙ ap (option_map (slot_before (keys_of rows.sources.entries) (keys_of rows.ids.entries))) at))
 
     -- the id that it leads to
-    target-at : (n : ℕ × Node) × (slice_get rows.ids.entries e.0.target ≡ Some n) × (n.0 ≡ (edge_named (keys_of rows.sources.entries) (keys_of rows.ids.entries) e.0).target)
+    pub target-at : (n : ℕ × Node) × (slice_get rows.ids.entries e.0.target ≡ Some n) × (n.0 ≡ (edge_named (keys_of rows.sources.entries) (keys_of rows.ids.entries) e.0).target)
     target-at =
         let n = entry-at rows.ids.entries e.0.target (kept.known i e at).target in
         (n.0, n.1, sym (get_or_from_slice_get (keys_of rows.ids.entries) e.0.target n.0.0 0 (key-at rows.ids.entries e.0.target n.0 n.1)))

@@ -1,5 +1,5 @@
 -- The edges that reach an id, as a walk comes by them.
-use Rattle.std.proofs.Common.{◌≡◌, ◌≤◌, ◌<◌, ◌⊎◌, ◌==◌, ◌||◌, not, if◌then◌else◌, inl, inr, ⊎_elim, Option, [], ◌++◌, ℕ, suc, nat_lt, Bool, true, false, List, Some, None, refl, sym, ◌∙◌, ap, length, take, slice_get, arith, true≢false}
+use Rattle.std.proofs.Common.{◌≡◌, ◌≤◌, ◌<◌, ◌⊎◌, ◌==◌, ◌||◌, not, if◌then◌else◌, inl, inr, ⊎_elim, Option, ◌++◌, ℕ, suc, nat_lt, Bool, true, false, List, Some, None, refl, sym, ◌∙◌, ap, length, take, slice_get, arith, true≢false}
 use Rattle.std.specs.Map.{keys_of}
 use Rattle.std.proofs.lemmas.Bool.Decides.{nat_tests}
 use Rattle.std.proofs.lemmas.List.{take_all}

@@ -1,5 +1,5 @@
 -- The changes of edges, as they are made of places in the order of the edges.
-use Rattle.std.proofs.Common.{arith, ◌≡◌, ◌+◌, ◌*◌, ◌%◌, ◌==◌, ℕ, suc, nat_lt, Bool, true, false, if◌then◌else◌, List, [], ◌∷◌, Option, None, Some, refl, sym, ◌∙◌, ap, subst, length, slice_get, nat_eq, ◌<◌}
+use Rattle.std.proofs.Common.{arith, ◌≡◌, ◌%◌, ◌==◌, ℕ, suc, nat_lt, Bool, true, false, if◌then◌else◌, List, [], ◌∷◌, Option, None, Some, refl, sym, ◌∙◌, ap, subst, length, slice_get, nat_eq, ◌<◌}
 use Rattle.std.proofs.lemmas.Map.Entries.{length-keys_of}
 use Rattle.std.proofs.lemmas.List.Sorted.{length_permutation}
 use Rattle.std.proofs.lemmas.Bool.Decides.{nat_tests}
@@ -66,7 +66,7 @@ module _ (rows : Rows) where
 
   module _ (kept : IsRows rows) where
     -- the edge at a place is told by what it is ordered by
-    told : (place : ℕ) (e : EdgeNo × Slot) → slice_get rows.edges.entries place ≡ Some e → edge_told rows (placed e.0 place (named e)) ≡ named e
+    pub told : (place : ℕ) (e : EdgeNo × Slot) → slice_get rows.edges.entries place ≡ Some e → edge_told rows (placed e.0 place (named e)) ≡ named e
     told place e at =
         let sources = keys_of rows.sources.entries in
         let edge = named e in

@@ -35,14 +35,19 @@ module _ (rows : Rows) (kept : IsRows rows) (side : Side) (q : ℕ) where
     is = kept.lasts side q ∙ ap (last_no (has_at side q)) (sym (take_all (length rows.edges.entries) (keys_of rows.edges.entries) (omega (arith, length-keys_of rows.edges.entries))));
   }
 
-  start : last_at side rows q ≡ last_no (has_at side q) (take (length rows.edges.entries) (keys_of rows.edges.entries))
+  pub start : last_at side rows q ≡ last_no (has_at side q) (take (length rows.edges.entries) (keys_of rows.edges.entries))
   start = kept.lasts side q ∙ ap (last_no (has_at side q)) (sym (take_all (length rows.edges.entries) (keys_of rows.edges.entries) (omega (arith, length-keys_of rows.edges.entries))))
 
+  module _ {X : Type 0} (pick : EdgeNo × Slot → Option X) (none : (e : EdgeNo × Slot) → has_at side q e.0 ≡ false → pick e ≡ None) where
+    -- nothing is picked behind it
+    pub picks-start : filter_map pick (drop (last_at side rows q) rows.edges.entries) ≡ []
+    picks-start =
+        ap (λ n. filter_map pick (drop n rows.edges.entries)) start
+        ∙ picked-along (has_at side q) pick none rows.edges.entries (length rows.edges.entries)
+        ∙ ap (filter_map pick) (drop_all (length rows.edges.entries) rows.edges.entries (omega arith))
+
   pub picked-start : filter_map (held_at rows side q) (drop (last_at side rows q) rows.edges.entries) ≡ []
-  picked-start =
-      ap (λ n. filter_map (held_at rows side q) (drop n rows.edges.entries)) start
-      ∙ picked-along (has_at side q) (held_at rows side q) (none-at rows side q) rows.edges.entries (length rows.edges.entries)
-      ∙ ap (filter_map (held_at rows side q)) (drop_all (length rows.edges.entries) rows.edges.entries (omega arith))
+  picked-start = picks-start (held_at rows side q) (none-at rows side q)
 
   module _ (number i : ℕ) (here : number ≡ suc i) (along : IsAlong rows side q number) where
     last-is : last_no (has_at side q) (take along.m (keys_of rows.edges.entries)) ≡ suc i
@@ -68,15 +73,20 @@ module _ (rows : Rows) (kept : IsRows rows) (side : Side) (q : ℕ) where
       pub next-le : next_at side e.1 ≤ i
       next-le = omega (arith, next-is, last_no-le (has_at side q) (take i (keys_of rows.edges.entries)), length-take i (keys_of rows.edges.entries))
 
-      -- what is picked from there on: this edge and those behind it
+      module _ {X : Type 0} (pick : EdgeNo × Slot → Option X) (none : (x : EdgeNo × Slot) → has_at side q x.0 ≡ false → pick x ≡ None) where
+        -- what is picked from there on: this edge and those behind it
+        pub picks-next : filter_map pick (drop (next_at side e.1) rows.edges.entries) ≡ cons_option (pick e) (filter_map pick (drop number rows.edges.entries))
+        picks-next =
+            ap (λ n. filter_map pick (drop n rows.edges.entries)) next-is
+            ∙ picked-along (has_at side q) pick none rows.edges.entries i
+            ∙ picked-step (has_at side q) pick none rows.edges.entries i e at
+            ∙ ap (λ n. cons_option (pick e) (filter_map pick (drop n rows.edges.entries))) (sym here)
+
       pub picked-next : filter_map (held_at rows side q) (drop (next_at side e.1) rows.edges.entries)
           ≡ cons_option (held_by (slot_named (keys_of rows.sources.entries) (keys_of rows.ids.entries) e)) (filter_map (held_at rows side q) (drop number rows.edges.entries))
       picked-next =
-          ap (λ n. filter_map (held_at rows side q) (drop n rows.edges.entries)) next-is
-          ∙ picked-along (has_at side q) (held_at rows side q) (none-at rows side q) rows.edges.entries i
-          ∙ picked-step (has_at side q) (held_at rows side q) (none-at rows side q) rows.edges.entries i e at
-          ∙ ap (λ b. cons_option (if b then held_by (slot_named (keys_of rows.sources.entries) (keys_of rows.ids.entries) e) else None) (filter_map (held_at rows side q) (drop (suc i) rows.edges.entries))) along-passes
-          ∙ ap (λ n. cons_option (held_by (slot_named (keys_of rows.sources.entries) (keys_of rows.ids.entries) e)) (filter_map (held_at rows side q) (drop n rows.edges.entries))) (sym here)
+          picks-next (held_at rows side q) (none-at rows side q)
+          ∙ ap (λ b. cons_option (if b then held_by (slot_named (keys_of rows.sources.entries) (keys_of rows.ids.entries) e) else None) (filter_map (held_at rows side q) (drop number rows.edges.entries))) along-passes
 
 -- past the last that passes none does
 pub last_no-past : {K : Type 0} (test : K → Bool) (ks : List K) (m j : ℕ) (k : K) → slice_get ks j ≡ Some k → j < m → last_no test (take m ks) ≤ j → test k ≡ false

@@ -23,6 +23,7 @@ pub mod GraphNames
 pub mod GraphOrdered
 pub mod GraphPlaces
 pub mod GraphSettled
+pub mod GraphSources
 pub mod GraphWalks
 mod InOrder
 mod Inserted
@@ -36,12 +37,14 @@ mod PickedInOrder
 mod PickedParts
 mod Placed
 pub mod Published
+mod Ranges
 mod RankedIn
 mod Reached
 mod Results
 mod ShardEdges
 pub mod Sharded
 mod SideBySide
+pub mod SourceLists
 mod SourceOrder
 mod Starts
 pub mod Steps

@@ -1,5 +1,5 @@
 -- What holds of a result that is known to be one or the other.
-use Rattle.std.proofs.Common.{◌≡◌, true, false}
+use Rattle.std.proofs.Common.{◌≡◌, false}
 use Rattle.std.specs.Prelude.{Result, Ok, Err, is_err, OnOk, OnErr}
 
 pub at_ok : {T E Q : Type 0} (r : Result T E) → is_err r ≡ false → OnOk r Q → Q

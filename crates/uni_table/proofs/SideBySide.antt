@@ -1,5 +1,5 @@
 -- Chains that are walked side by side: each place that is passed is followed by the one before it.
-use Rattle.std.proofs.Common.{◌≡◌, ◌≤◌, ◌<◌, ◌+◌, ◌++◌, ◌∷◌, [], inl, inr, ⊎_elim, get_or, ℕ, zero, suc, nat_lt, Bool, true, false, List, Option, None, Some, refl, sym, ◌∙◌, ap, subst, length, take, drop, slice_get, arith, append_assoc, length-take, if◌then◌else◌}
+use Rattle.std.proofs.Common.{◌≡◌, ◌≤◌, ◌<◌, ◌+◌, ◌++◌, ◌∷◌, [], ⊎_elim, get_or, ℕ, zero, suc, nat_lt, Bool, true, false, List, Option, None, Some, refl, sym, ◌∙◌, ap, subst, length, take, drop, slice_get, arith, append_assoc, length-take, if◌then◌else◌}
 use Rattle.std.proofs.lemmas.Bool.Decides.{nat_tests}
 use Rattle.std.proofs.lemmas.List.Elements.{Contains-append_left, Contains-append_right, filter_map-append}
 use Rattle.std.specs.List.{Contains, cons_option, filter_map}

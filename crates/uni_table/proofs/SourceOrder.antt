@@ -6,7 +6,6 @@ use Rattle.std.specs.declared.cmp.Ordering.{Ordering}
 use Rattle.std.specs.declared.cmp.Ordering.TheVariants.{Less, Equal, Greater}
 use Rattle.std.specs.Option.{option_map_or}
 use Rattle.std.specs.Ordering.{nat_cmp, ordering_then}
-use Rattle.uni_base.specs.declared.edge.Key.{Key}
 use Rattle.uni_base.specs.declared.edge.Key.TheVariants.{Id}
 use Rattle.uni_base.specs.EdgeOrder.{key_cmp, key_cmp-total}
 use Rattle.uni_table.specs.GraphOrder.{id_of_no, leads_tell, key_at, key_told, short_id, type_told}

@@ -1,8 +1,8 @@
 -- A walk along chains side by side comes by each edge once.
-use Rattle.std.proofs.Common.{◌≡◌, ◌≤◌, ◌<◌, ◌+◌, ◌++◌, ◌∷◌, [], ◌⊎◌, ⊎_elim, ◌||◌, ◌&&◌, if◌then◌else◌, ℕ, zero, suc, nat_lt, nat_eq, Bool, true, false, List, Option, None, Some, refl, sym, ◌∙◌, ap, subst, length, take, get_or, slice_get, arith, append-nil, length-take, true≢false}
+use Rattle.std.proofs.Common.{◌≡◌, ◌<◌, ◌++◌, ◌∷◌, [], ⊎_elim, ◌||◌, ◌&&◌, if◌then◌else◌, ℕ, zero, suc, nat_lt, nat_eq, Bool, true, false, List, Option, None, Some, refl, sym, ◌∙◌, ap, subst, length, take, get_or, slice_get, arith, append-nil, length-take, true≢false}
 use Rattle.std.proofs.lemmas.Bool.Decides.{nat_tests}
 use Rattle.std.proofs.lemmas.List.{get_or-take, get_or_default, map-id, take_all}
-use Rattle.std.proofs.lemmas.List.Elements.{Contains-append_cases, Contains-append_left, Contains-append_right, filter_map-append}
+use Rattle.std.proofs.lemmas.List.Elements.{Contains-append_cases, filter_map-append}
 use Rattle.std.proofs.lemmas.Map.Entries.{length-keys_of}
 use Rattle.std.proofs.lemmas.Map.Keys.{IsDistinct-head, IsDistinct-tail, IsDistinct-cons, apart_from_distinct}
 use Rattle.std.proofs.lemmas.Option.{slice_get_within}
@@ -11,7 +11,7 @@ use Rattle.std.specs.Map.{keys_of}
 use Rattle.std.specs.Option.{option_and_then, option_to_list}
 use Rattle.chained_rows.specs.Chains.{last_no}
 use Rattle.chained_rows.proofs.Chains.{last_no-le, last_no-passes}
-use Rattle.uni_table.specs.GraphChanges.{earlier_at, is_affected, is_other, moved_at, moved_last_at, place_of, ranks_at, ranks_differ, untouched_at}
+use Rattle.uni_table.specs.GraphChanges.{earlier_at, is_affected, is_other, moved_at, moved_last_at, place_of, untouched_at}
 use Rattle.uni_table.specs.GraphOrder.{affected_at, affected_by, placed_at, untouched_by, untouched_edge_at, AddsMoved, AreAffectedEdges}
 use Rattle.uni_table.specs.GraphRows.{IsRows, has_at, is_live, is_same, last_at}
 use Rattle.uni_table.specs.declared.graph.numbers.Before.{Before}

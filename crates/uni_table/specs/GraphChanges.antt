@@ -167,3 +167,10 @@ IsLedByMoved rows numbers place =
 -- all edges that are affected have their places there
 abbrev pub AreAffected : Rows → List ℕ → Type 0
 AreAffected rows places = (place : ℕ) (e : EdgeNo × Slot) → slice_get rows.edges.entries place ≡ Some e → is_affected rows e ≡ true → Contains places place
+
+-- an id as a change of one that was none, if it is an entity
+abbrev pub entity_put : ℕ × Node → Option EntityChange
+entity_put e = option_map (λ row. record { id = e.0; before = None; after = Some row }) e.1.row
+
+abbrev pub put_at : Rows → ℕ → Option EntityChange
+put_at rows number = option_and_then entity_put (slice_get rows.ids.entries number)

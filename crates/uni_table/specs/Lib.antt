@@ -7,6 +7,7 @@ pub mod GraphChanges
 pub mod GraphKeys
 pub mod GraphOrder
 pub mod GraphRows
+pub mod GraphSources
 pub mod GraphState
 pub mod Journals
 pub mod Laws
@@ -17,5 +18,6 @@ pub mod Shards
 pub mod ShortNodes
 pub mod ShortSlots
 pub mod ShortSources
+pub mod Sources
 pub mod TableState
 pub mod Targets

@@ -1,6 +1,7 @@
 ghost use Rattle.std.specs.Prelude.{◌≡◌, ◌<◌, ◌⊎◌, ◌==◌, ◌&&◌, not, None, Some, length, map, filter, IfOk, IfErr, OnOk, OnErr, IsPermutation};
 ghost use Rattle.uni_table.specs.Added.{Adds};
 ghost use Rattle.uni_table.specs.Changes.{AreEdgeChanges, HasEntityChanges};
+ghost use Rattle.uni_table.specs.Sources.{AreSources};
 
 mod affected;
 mod batches;
@@ -11,19 +12,21 @@ mod ends;
 mod entities;
 mod found;
 mod lists;
-mod numbers;
+pub mod numbers;
 mod order;
 mod refuses;
 mod rows;
 mod short_node;
 mod short_slot;
 mod short_source;
+pub mod sources;
 mod touched;
 mod walks;
 
 use crate::{EdgeRow, EntityChange, EntityRow, FeedRefusal};
 use changed_edges::ChangedEdges;
 use rows::Rows;
+use sources::EdgeSources;
 use std::alloc::{AllocError, Global};
 use std::marker::Model;
 use uni_base::{Audience, DocKey, EdgeRef, EntityId, Held, Key, Limits};
@@ -35,9 +38,11 @@ use uni_schema::{Schema, TypeDef};
 #[derive(Drop)]
 pub(crate) struct Graph {
     rows: Rows,
+    published_entities: u64,
 }
 
 impl Model for Graph {
+    ghost use Rattle.std.specs.Prelude.{◌≡◌, length};
     ghost use Rattle.uni_table.specs.GraphRows.{contents_of, published_of, IsRows};
     ghost use Rattle.uni_table.specs.GraphState.{GraphState};
 
@@ -45,7 +50,7 @@ impl Model for Graph {
 
     ghost view = { λ g. record { contents = contents_of g.rows; published = published_of g.rows } };
 
-    ghost invariant = { λ g. IsRows g.rows };
+    ghost invariant = { λ g. IsRows g.rows × (g.published_entities ≡ length (published_of g.rows).entities) };
 }
 
 /// An edge with the number of the publish that ends it, by the number first.
@@ -67,6 +72,7 @@ impl Graph {
     {
         Graph {
             rows: Rows::new(alloc),
+            published_entities: 0,
         }
     }
 
@@ -89,6 +95,13 @@ impl Graph {
         ensures { result ≡ length self.now.contents.entities }
     {
         self.rows.entity_count
+    }
+
+    /// How many entities there were as the last batch ended.
+    pub fn published_entities(&self) -> u64
+        ensures { result ≡ length self.now.published.entities }
+    {
+        self.published_entities
     }
 
     /// How many edges there are.
@@ -195,6 +208,20 @@ impl Graph {
         self.rows.members(alloc, schema, vertical, shard)
     }
 
+    /// All entities, each as a change of an id that was none, in some order.
+    pub fn all_entities(&self, alloc: Global) -> Result<Vec<EntityChange>, AllocError>
+        ensures { IfOk result (λ changes. HasEntityChanges empty self.now.contents changes.items) }
+    {
+        self.rows.all_entities(alloc)
+    }
+
+    /// The types and keys below a number of types at which edges start, or started, in their order.
+    pub fn edge_sources(&self, alloc: Global, types: u16) -> Result<EdgeSources<'_>, AllocError>
+        ensures { IfOk result (AreSources types self.now.contents) }
+    {
+        self.rows.edge_sources(alloc, types)
+    }
+
     /// The entities that differ from what they were as the last batch ended, in some order.
     pub fn entity_changes(&self, alloc: Global) -> Result<Vec<EntityChange>, AllocError>
         ensures { IfOk result (λ changes. HasEntityChanges self.now.published self.now.contents changes.items) }
@@ -214,6 +241,7 @@ impl Graph {
     pub fn begin_batch(&mut self)
         ensures { self.new ≡ record self.old { published = self.old.contents } }
     {
+        self.published_entities = self.rows.entity_count;
         self.rows.begin_batch();
     }
 
@@ -223,6 +251,7 @@ impl Graph {
     {
         Ok(Graph {
             rows: self.rows.copy()?,
+            published_entities: self.published_entities,
         })
     }
 }

@@ -13,5 +13,8 @@ mod table;
 pub use change::{EdgeChange, EdgeChanges, EntityChange, EntityChanges};
 pub use command::{AudienceText, Command, EdgeRow, EntityRow};
 pub use graph::changed_edges::ChangedEdges;
+pub use graph::numbers::Source;
+pub use graph::sources::{EdgeSources, TargetList};
 pub use refusal::FeedRefusal;
 pub use table::Table;
+pub use table::reached::Target;

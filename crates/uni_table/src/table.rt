@@ -13,7 +13,7 @@ mod circles;
 mod gone;
 mod lists;
 mod put;
-mod reached;
+pub mod reached;
 mod refuses;
 mod shards;
 
@@ -137,6 +137,13 @@ impl Table {
         ensures { result ≡ length self.now.contents.entities }
     {
         self.graph.entities()
+    }
+
+    /// How many entities there were as the last batch ended.
+    pub fn published_entities(&self) -> u64
+        ensures { result ≡ length self.now.published.entities }
+    {
+        self.graph.published_entities()
     }
 
     /// How many edges there are.

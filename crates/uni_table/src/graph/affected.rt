@@ -12,8 +12,8 @@ use super::order::PlacedEdge;
 use super::rows::Rows;
 use std::alloc::{AllocError, Global};
 
-// Adds an item to a list, if there is one.
-fn push_some<T: Drop>(items: &mut Vec<T>, item: Option<T>) -> Result<(), AllocError>
+/// Adds an item to a list, if there is one.
+pub(super) fn push_some<T: Drop>(items: &mut Vec<T>, item: Option<T>) -> Result<(), AllocError>
     ensures { OnOk result (items.new.items ≡ items.old.items ++ option_to_list item) }
 {
     if let Some(item) = item {
@@ -22,8 +22,8 @@ fn push_some<T: Drop>(items: &mut Vec<T>, item: Option<T>) -> Result<(), AllocEr
     Ok(())
 }
 
-// The place of a number: they count from 1, and 0 is none.
-fn place_of(number: u32) -> Option<u32>
+/// The place of a number: they count from 1, and 0 is none.
+pub(super) fn place_of(number: u32) -> Option<u32>
     ensures { result ≡ place_of number }
 {
     if number > 0 { Some(number - 1) } else { None }
@@ -61,8 +61,8 @@ impl Rows {
         place_of(slot.slot().next_into)
     }
 
-    // An edge of two numbers with its place, and with what it is ordered by.
-    fn placed(&self, number: EdgeNo, place: u32) -> PlacedEdge
+    /// An edge of two numbers with its place, and with what it is ordered by.
+    pub(super) fn placed(&self, number: EdgeNo, place: u32) -> PlacedEdge
         requires source { number.source < length self.now.sources.entries }
         requires target { number.target < length self.now.ids.entries }
         ensures { result ≡ placed_at self.now place number }

@@ -3,9 +3,11 @@ ghost use Rattle.std.specs.Prelude.{◌≡◌, ◌++◌, ◌∷◌, [], IfOk, On
 ghost use Rattle.std.specs.List.{filter_map};
 ghost use Rattle.std.specs.Option.{option_to_list};
 ghost use Rattle.uni_table.specs.Changes.{HasEntityChanges};
-ghost use Rattle.uni_table.specs.GraphChanges.{entity_change_at, ranks_at};
+ghost use Rattle.uni_table.specs.Contents.{empty};
+ghost use Rattle.uni_table.specs.GraphChanges.{entity_change_at, put_at, ranks_at};
 ghost use Rattle.uni_table.specs.GraphRows.{contents_of, published_of, IsRows};
 
+use super::affected::push_some;
 use super::numbers::Ranks;
 use super::rows::Rows;
 use crate::EntityChange;
@@ -41,6 +43,31 @@ impl Rows {
             after: node.row,
         })?;
         Ok(())
+    }
+
+    // The id of a number as a change of one that was none, if it is an entity.
+    fn entity_put(&self, number: usize) -> Option<EntityChange>
+        ensures { result ≡ put_at self.now number }
+    {
+        let (id, node) = self.ids.get_index(number)?;
+        let row = node.row()?;
+        Some(EntityChange {
+            id: *id,
+            before: None,
+            after: Some(row),
+        })
+    }
+
+    /// All entities, each as a change of an id that was none, in some order.
+    pub fn all_entities(&self, alloc: Global) -> Result<Vec<EntityChange>, AllocError>
+        requires { IsRows self.now }
+        ensures { IfOk result (λ changes. HasEntityChanges empty (contents_of self.now) changes.items) }
+    {
+        let mut changes = Vec::with_capacity(alloc, self.ids.len())?;
+        for number in 0..self.ids.len() {
+            push_some(&mut changes, self.entity_put(number))?;
+        }
+        Ok(changes)
     }
 
     // The changes of the ids at places, those that differ.

@@ -8,7 +8,7 @@ use uni_base::{Key, Rank};
 
 /// A type and a key: what edges start at.
 #[derive(Clone, Copy, Debug, PartialEq, Eq, Hash)]
-pub(crate) struct Source {
+pub struct Source {
     pub type_no: u16,
     pub key: Key,
 }

@@ -51,8 +51,8 @@ pub(super) fn lead(type_no: u16, key: &Key) -> u64
 }
 
 impl PlacedEdge {
-    // The number of its type.
-    fn type_no(&self) -> u16
+    /// The number of its type.
+    pub(super) fn type_no(&self) -> u16
         ensures { result ≡ type_told self.now }
     {
         (self.lead / SPAN) as u16

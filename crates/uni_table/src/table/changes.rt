@@ -1,11 +1,29 @@
-ghost use Rattle.std.specs.Prelude.{IfOk, IsPermutation, IsSortedByKey};
+ghost use Rattle.std.specs.Prelude.{length, IfOk, IsPermutation, IsSortedByKey};
 ghost use Rattle.std.specs.Ordering.{nat_cmp};
 
-use crate::{ChangedEdges, EntityChange, EntityChanges, Table};
+use crate::{ChangedEdges, EdgeSources, EntityChange, EntityChanges, Table};
 use std::alloc::AllocError;
 
 impl Table {
     ghost use Rattle.uni_table.specs.Changes.{AreEdgeChanges, AreEntityChanges};
+    ghost use Rattle.uni_table.specs.Contents.{empty};
+    ghost use Rattle.uni_table.specs.Sources.{AreSources};
+
+    /// All entities, each as a change of an id that was none, by id. It costs one pass over the ids, and a sort.
+    pub fn all_entities(&self) -> Result<EntityChanges, AllocError>
+        ensures { IfOk result (AreEntityChanges empty self.now.contents) }
+    {
+        let changes = self.graph.all_entities(self.alloc)?;
+        Ok(by_id(changes))
+    }
+
+    /// The types and keys at which edges start, or started, in their order. It costs one pass over them, and a
+    /// sort; what the edges of one lead to is read as it is asked for.
+    pub fn edge_sources(&self) -> Result<EdgeSources<'_>, AllocError>
+        ensures { IfOk result (AreSources (length self.now.schema.types) self.now.contents) }
+    {
+        self.graph.edge_sources(self.alloc, self.schema.types())
+    }
 
     /// The entities that differ from what they were as the last batch ended, by id. It costs the rows that
     /// the batch touched, and a sort.

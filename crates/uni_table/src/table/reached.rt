@@ -5,9 +5,9 @@ use crate::Table;
 use std::alloc::AllocError;
 use uni_base::{Audience, DocKey, EdgeRef, EntityId, Held, HeldList, Key};
 
-// What an edge of some type and key leads to, with the edge's audience.
+/// What an edge of some type and key leads to, with the edge's audience.
 #[derive(Clone, Copy, Debug, PartialEq, Eq)]
-pub(crate) struct Target {
+pub struct Target {
     pub doc: DocKey,
     pub audience: Audience,
 }

@@ -1,4 +1,4 @@
-use Rattle.std.proofs.Common.{◌≡◌, ◌+◌, set, get_or, subst, sym, if◌then◌else◌, arith, rules}
+use Rattle.std.proofs.Common.{◌≡◌, ◌+◌, set, get_or, subst, sym, if◌then◌else◌, rules}
 use Rattle.uni_table.specs.GraphKeys.{is_noted_at}
 use Rattle.uni_table.proofs.Noted.{noted}
 use Rattle.uni_table.proofs.graph.rows.note_start.Goals as goal

@@ -1,11 +1,11 @@
-use Rattle.std.proofs.Common.{◌≡◌, ◌+◌, ◌<◌, ◌++◌, ℕ, suc, nat_eq, subst, sym, ◌∙◌, ap, append-nil, length, take, drop, arith, rules}
+use Rattle.std.proofs.Common.{◌≡◌, ◌+◌, ◌<◌, ◌++◌, suc, nat_eq, subst, sym, ◌∙◌, ap, append-nil, length, take, drop, arith, rules}
 use Rattle.std.specs.List.{Contains, IsDistinct, filter_map}
 use Rattle.std.specs.Option.{option_to_list}
 use Rattle.std.proofs.lemmas.List.{take_all}
 use Rattle.uni_table.specs.GraphChanges.{earlier_at, moved_last_at}
 use Rattle.uni_table.specs.GraphOrder.{untouched_edge_at}
 use Rattle.uni_table.proofs.SideBySide.{before-earlier, picked-on, weight, weight-step}
-use Rattle.uni_table.proofs.WalkedOnce.{adds-moved, adds-none, lasts-apart, lasts-reached, walk-apart, walk-reached, IsReached}
+use Rattle.uni_table.proofs.WalkedOnce.{adds-moved, adds-none, lasts-apart, lasts-reached, walk-apart, walk-reached}
 use Rattle.uni_table.proofs.graph.rows.Rows.add_moved.Goals as goal
 
 pub loop-at-init : goal.loop-at-init

@@ -1,5 +1,4 @@
-use Rattle.std.proofs.Common.{ap, subst, ◌∙◌}
-use Rattle.std.specs.List.{filter_map}
+use Rattle.std.proofs.Common.{subst}
 use Rattle.std.specs.List.Sorted.{IsPermutation}
 use Rattle.uni_table.proofs.GraphOrdered.{changes-in-order, have-changes}
 use Rattle.uni_table.proofs.graph.rows.Rows.edge_changes.Goals as goal
