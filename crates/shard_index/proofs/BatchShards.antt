@@ -13,7 +13,7 @@ use Rattle.uni_base.specs.declared.limits.Limits.{Limits}
 use Rattle.uni_base.specs.EdgeOrder.{edge_cmp}
 use Rattle.uni_schema.specs.declared.schema.TypeDef.{TypeDef}
 use Rattle.uni_schema.specs.Schema.{Declarations, type_at}
-use Rattle.uni_table.specs.Changes.{rank_at, AreEdgeChanges, AreEntityChanges, IsEdgeChange}
+use Rattle.uni_table.specs.Changes.{rank_at, AreEntityChanges, IsEdgeChange}
 use Rattle.uni_table.specs.Contents.{Contents, edge_at, key_stands, source_stands}
 use Rattle.uni_table.specs.GraphKeys.{exact_edges}
 use Rattle.uni_table.specs.TableState.{TableState, IsKept}
@@ -23,7 +23,7 @@ use Rattle.uni_table.specs.declared.command.EdgeRow.{EdgeRow}
 use Rattle.layer_base.specs.Layers.{layer_over as table_over}
 use Rattle.forward_data.specs.Records.{record_cmp, records_over}
 use Rattle.shard_index.specs.declared.batch.notes.ShardNotes.{ShardNotes}
-use Rattle.shard_index.specs.Batches.{ShardPlace, all_shards, TakesOver, TakeOver}
+use Rattle.shard_index.specs.Batches.{AreAllChanges, ShardPlace, all_shards, TakesOver, TakeFrom}
 use Rattle.shard_index.specs.ChangedRows.{shard_entities}
 use Rattle.shard_index.specs.Notes.{no_notes, noted_layer, IsNoted, AreNoted}
 use Rattle.shard_index.specs.Rows.{ShardRows, ShardChanges, layer_over}
@@ -38,7 +38,7 @@ use Rattle.shard_index.proofs.OnlyChanged.{changes_only}
 -- ---- the types of edges that changed are declared
 
 module _ (schema : Declarations) where
-  declared_there : (limits : Limits) (table : Contents) → IsKept schema limits table → (edge : EdgeRef) (row : EdgeRow) → edge_at table edge ≡ Some row → edge.type_no < length schema.types
+  pub declared_there : (limits : Limits) (table : Contents) → IsKept schema limits table → (edge : EdgeRef) (row : EdgeRow) → edge_at table edge ≡ Some row → edge.type_no < length schema.types
   declared_there limits table kept edge row at =
       let among : Contains table.edges (edge, row) = Contains-from_lookup {eq = eq_by_cmp edge_cmp} (λ x y t. exact_edges x y (equal_of (edge_cmp x y) t)) edge row table.edges at in
       by (type_at schema edge.type_no) refl (All-contains (λ (e : EdgeRef × EdgeRow). key_stands schema table e.0 ≡ true) table.edges (edge, row) (AllPass-from_list_all (λ (e : EdgeRef × EdgeRow). key_stands schema table e.0) table.edges kept.keys) among)
@@ -47,9 +47,9 @@ module _ (schema : Declarations) where
       by None e t = cc
       by (Some d) e t = slice_get_within schema.types edge.type_no d e
 
-  pub changes_declared : (limits : Limits) (old new : Contents) → IsKept schema limits old → IsKept schema limits new → (cs : List EdgeChange) → AreEdgeChanges old new cs → All (λ (c : EdgeChange). c.edge.type_no < length schema.types) cs
+  pub changes_declared : (limits : Limits) (old new : Contents) → IsKept schema limits old → IsKept schema limits new → (cs : List EdgeChange) → AreAllChanges old new cs → All (λ (c : EdgeChange). c.edge.type_no < length schema.types) cs
   changes_declared limits old new old_kept new_kept cs are =
-      All-weaker (Contains cs) (λ (c : EdgeChange). c.edge.type_no < length schema.types) (λ c among. one c ((are.exact c).0 among)) cs (All-contains_itself cs)
+      All-weaker (Contains cs) (λ (c : EdgeChange). c.edge.type_no < length schema.types) (λ c among. one c ((are c).0 among)) cs (All-contains_itself cs)
     where
       one : (c : EdgeChange) → IsEdgeChange old new c → c.edge.type_no < length schema.types
       one c known = by (edge_at old c.edge) (edge_at new c.edge) refl refl
@@ -82,10 +82,10 @@ parts_take old new layer parts = λ i. record { entities = parts.entities i; pos
 
 -- ---- a layer of what was noted
 
-module _ (table : TableState) (old_kept : IsKept table.schema table.limits table.published) (kept : IsKept table.schema table.limits table.contents) (es : List EntityChange) (changed : AreEntityChanges table.published table.contents es) (cs : List EdgeChange) (are : AreEdgeChanges table.published table.contents cs) where
-  noted_takes : (place : ShardPlace) (notes : ShardNotes) → IsNoted table es es cs place notes → TakesOver table.schema table.published table.contents place (noted_layer notes)
+module _ (table : TableState) (old : Contents) (old_kept : IsKept table.schema table.limits old) (kept : IsKept table.schema table.limits table.contents) (es : List EntityChange) (changed : AreEntityChanges old table.contents es) (cs : List EdgeChange) (are : AreAllChanges old table.contents cs) where
+  noted_takes : (place : ShardPlace) (notes : ShardNotes) → IsNoted table es es cs place notes → TakesOver table.schema old table.contents place (noted_layer notes)
   noted_takes place notes noted =
-      let schema = table.schema in let old = table.published in let new = table.contents in let v = place.vertical in let s = place.shard in
+      let schema = table.schema in let new = table.contents in let v = place.vertical in let s = place.shard in
       let entities : notes.entities ≡ shard_entities schema v s es = λ i. record { deletes = noted.removals i; puts = noted.puts i } in
       let from : FromChanges schema old new v s es cs (noted_layer notes) = record { entities = entities; postings = noted.postings; records = noted.records } in
       record {
@@ -98,13 +98,13 @@ module _ (table : TableState) (old_kept : IsKept table.schema table.limits table
         few = few_entries schema table.limits old new v s old_kept kept es changed cs are (noted_layer notes) from;
       }
 
-  all_take : (places : List ShardPlace) (notes : List ShardNotes) → AllZip (IsNoted table es es cs) places notes → TakeOver table places (map noted_layer notes)
+  all_take : (places : List ShardPlace) (notes : List ShardNotes) → AllZip (IsNoted table es es cs) places notes → TakeFrom table.schema old table.contents places (map noted_layer notes)
   all_take [] [] all = tt
   all_take [] (n ∷ notes) all = absurd all
   all_take (p ∷ places) [] all = absurd all
   all_take (p ∷ places) (n ∷ notes) all = (noted_takes p n all.0, all_take places notes all.1)
 
-  pub batch_taken : (notes : List ShardNotes) → AreNoted table es es cs notes → TakeOver table (all_shards table.schema) (map noted_layer notes)
+  pub batch_taken : (notes : List ShardNotes) → AreNoted table es es cs notes → TakeFrom table.schema old table.contents (all_shards table.schema) (map noted_layer notes)
   batch_taken notes all = all_take (all_shards table.schema) notes all
 
 -- nothing is noted at first

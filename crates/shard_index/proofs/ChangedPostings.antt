@@ -13,7 +13,7 @@ use Rattle.uni_base.specs.declared.entity.Rank.{Rank}
 use Rattle.uni_base.specs.declared.limits.Limits.{Limits}
 use Rattle.uni_base.specs.EdgeOrder.{key_cmp, key_cmp-total}
 use Rattle.uni_schema.specs.Schema.{Declarations}
-use Rattle.uni_table.specs.Changes.{rank_at, AreEdgeChanges, IsEdgeChange}
+use Rattle.uni_table.specs.Changes.{rank_at, IsEdgeChange}
 use Rattle.uni_table.specs.Contents.{Contents, edge_at}
 use Rattle.uni_table.specs.TableState.{IsKept}
 use Rattle.uni_table.specs.declared.change.EdgeChange.{EdgeChange}
@@ -25,6 +25,7 @@ use Rattle.layer_base.proofs.Tables.{get-layer_over}
 use Rattle.layer_stack.specs.declared.place.Place.{Place}
 use Rattle.layer_stack.specs.Places.{place_cmp}
 use Rattle.layer_stack.proofs.Order.{place_total, place_apart}
+use Rattle.shard_index.specs.Batches.{AreAllChanges}
 use Rattle.shard_index.specs.ChangedRows.{same_audience, is_posted, posting_for, if_posted, posting_before, posting_now, shard_postings}
 use Rattle.shard_index.specs.Shards.{shard_rows}
 use Rattle.shard_index.proofs.ChangedEntities.{exact_rank, rank_itself}
@@ -69,7 +70,7 @@ change_at old new edge = record {
   rank_after = rank_at new edge.target;
 }
 
-module _ (schema : Declarations) (limits : Limits) (old new : Contents) (vertical shard : ℕ) (old_kept : IsKept schema limits old) (new_kept : IsKept schema limits new) (cs : List EdgeChange) (are : AreEdgeChanges old new cs) where
+module _ (schema : Declarations) (limits : Limits) (old new : Contents) (vertical shard : ℕ) (old_kept : IsKept schema limits old) (new_kept : IsKept schema limits new) (cs : List EdgeChange) (are : AreAllChanges old new cs) where
   abbrev pub was : EdgeChange → Option (Place × Audience)
   was c = if_posted schema vertical shard c.edge (posting_before c)
 
@@ -96,7 +97,7 @@ module _ (schema : Declarations) (limits : Limits) (old new : Contents) (vertica
     -- a change of the edge of the place
     says : (c : EdgeChange) → Contains cs c → named q ≡ c.edge → SaysSo c
     says c among is =
-        let known = (are.exact c).0 among in
+        let known = (are c).0 among in
         record {
           was_is = same_at (was c) ∙ (λ i. at_place q (if_posted schema vertical shard c.edge (posting_for c.edge (known.3 i) (known.0 i))))
               ∙ ap (λ (e : EdgeRef). at_place q (if_posted schema vertical shard e (posting_for e (rank_at old e.target) (edge_at old e)))) (sym is);
@@ -148,7 +149,7 @@ module _ (schema : Declarations) (limits : Limits) (old new : Contents) (vertica
       sound = λ c among t. says c among (either_names c (is_some (at (was c))) (is_some (at (now c))) refl refl t);
       complete = λ differ.
           let change = change_at old new (named q) in
-          let among : Contains cs (change_at old new (named q)) = (are.exact (change_at old new (named q))).1 (differs differ) in
+          let among : Contains cs (change_at old new (named q)) = (are (change_at old new (named q))).1 (differs differ) in
           (change, among, says change among refl);
     }
 

@@ -16,7 +16,6 @@ use Rattle.uni_base.specs.declared.limits.Limits.{Limits}
 use Rattle.uni_base.specs.EdgeOrder.{key_cmp, key_cmp-total}
 use Rattle.uni_schema.specs.declared.schema.TypeDef.{TypeDef}
 use Rattle.uni_schema.specs.Schema.{Declarations, type_at, shard_of, source_of, is_index}
-use Rattle.uni_table.specs.Changes.{AreEdgeChanges}
 use Rattle.uni_table.specs.Contents.{Contents, edge_at, audience_at, starts_at}
 use Rattle.uni_table.specs.Lists.{held_of, is_kept_in, keeps_target, keeps_source, starts_in, shard_edges}
 use Rattle.uni_table.specs.Shards.{is_forward_type}
@@ -29,6 +28,7 @@ use Rattle.forward_data.specs.declared.record.RecordKey.{RecordKey}
 use Rattle.forward_data.specs.Records.{Records, record_key, record_cmp, records_over, left_by, AreFull, under}
 use Rattle.forward_data.proofs.Newest.{get-over}
 use Rattle.forward_data.proofs.Order.{record_total, record_apart}
+use Rattle.shard_index.specs.Batches.{AreAllChanges}
 use Rattle.shard_index.specs.ChangedRows.{same_audiences, audience_of, record_from, record_within, changed_record, is_record, is_among, items_of, AreShardRecords}
 use Rattle.shard_index.specs.Shards.{record_of_edge, items_from, record_row, shard_rows}
 use Rattle.shard_index.proofs.ChangedPostings.{exact_audience, audience_itself, change_at}
@@ -182,7 +182,7 @@ module _ (schema : Declarations) (vertical shard : ℕ) where
         opened (finite.get (shard_rows schema table vertical shard).records q) (full q)
         ∙ ap left_by (records_read schema table vertical shard q.type_no q.id parts.0 (same_number (shard_of schema vertical q.id) shard parts.1))
 
-  module _ (limits : Limits) (old new : Contents) (old_kept : IsKept schema limits old) (new_kept : IsKept schema limits new) (cs : List EdgeChange) (are : AreEdgeChanges old new cs) where
+  module _ (limits : Limits) (old new : Contents) (old_kept : IsKept schema limits old) (new_kept : IsKept schema limits new) (cs : List EdgeChange) (are : AreAllChanges old new cs) where
     -- a record that changes is one of the shard
     among_own : (q : RecordKey) (ds : List EdgeChange) → is_among schema vertical shard ds q ≡ true → is_own q ≡ true
     among_own q [] t = cc
@@ -218,7 +218,7 @@ module _ (schema : Declarations) (vertical shard : ℕ) where
         by : (b : Bool) → same_audiences (audience_at old edge) (audience_at new edge) ≡ b → audience_at old edge ≡ audience_at new edge
         by true f = same_either (audience_at old edge) (audience_at new edge) f
         by false f =
-            let among : Contains cs (change_at old new edge) = (are.exact (change_at old new edge)).1 (refl, refl, inl (differ f), refl, refl) in
+            let among : Contains cs (change_at old new edge) = (are (change_at old new edge)).1 (refl, refl, inl (differ f), refl, refl) in
             let changed : changed_record schema vertical shard (change_at old new edge) ≡ Some q = ap (λ b. if b then None else record_within schema vertical shard edge) f ∙ within edge q t starts in
             absurd (never among changed)
           where

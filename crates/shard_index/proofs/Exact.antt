@@ -1,11 +1,10 @@
 -- The rows of a shard have exactly what the table has there, and stacks add up.
-use Rattle.std.proofs.Common.{◌≡◌, ◌∙◌, ℕ, Bool, true, false, if◌then◌else◌, List, Option, None, Some, refl, ap}
+use Rattle.std.proofs.Common.{◌≡◌, ◌∙◌, ℕ, Bool, true, false, if◌then◌else◌, Option, None, Some, refl, ap}
 use Rattle.std.specs.FinMap as finite
 use Rattle.uni_base.specs.declared.edge.Audience.{Audience}
 use Rattle.uni_schema.specs.Schema.{Declarations}
 use Rattle.uni_table.specs.Contents.{Contents}
 use Rattle.layer_stack.specs.declared.place.Place.{Place}
-use Rattle.forward_data.specs.declared.record.ForwardItem.{ForwardItem}
 use Rattle.forward_data.specs.declared.record.RecordKey.{RecordKey}
 use Rattle.forward_data.specs.Records.{left_by}
 use Rattle.shard_index.specs.ChangedRows.{items_of}

@@ -3,12 +3,13 @@ use Rattle.std.proofs.Common.{◌≡◌, ◌≤◌, ◌+◌, ◌*◌, ℕ, List,
 use Rattle.std.specs.FinMap as finite
 use Rattle.uni_base.specs.declared.limits.Limits.{Limits}
 use Rattle.uni_schema.specs.Schema.{Declarations}
-use Rattle.uni_table.specs.Changes.{AreEdgeChanges, AreEntityChanges}
+use Rattle.uni_table.specs.Changes.{AreEntityChanges}
 use Rattle.uni_table.specs.Contents.{Contents}
 use Rattle.uni_table.specs.TableState.{IsKept}
 use Rattle.uni_table.specs.declared.change.EdgeChange.{EdgeChange}
 use Rattle.uni_table.specs.declared.change.EntityChange.{EntityChange}
 use Rattle.layer_stack.specs.Postings.{PostingChanges}
+use Rattle.shard_index.specs.Batches.{AreAllChanges}
 use Rattle.shard_index.specs.ChangedRows.{shard_entities, shard_postings, AreShardRecords}
 use Rattle.shard_index.specs.Entities.{EntityChanges}
 use Rattle.shard_index.specs.Rows.{ShardChanges, entries}
@@ -26,7 +27,7 @@ pub record FromChanges (schema : Declarations) (old new : Contents) (vertical sh
 sum_of : (a b c d e x y z : ℕ) → a ≤ x → b ≤ x → c ≤ y → d ≤ y → e ≤ z → a + b + (c + d) + e ≤ 2 * (x + y + z)
 sum_of a b c d e x y z p q r s t = omega (arith, p, q, r, s, t)
 
-pub few_entries : (schema : Declarations) (limits : Limits) (old new : Contents) (vertical shard : ℕ) → IsKept schema limits old → IsKept schema limits new → (es : List EntityChange) → AreEntityChanges old new es → (cs : List EdgeChange) → AreEdgeChanges old new cs
+pub few_entries : (schema : Declarations) (limits : Limits) (old new : Contents) (vertical shard : ℕ) → IsKept schema limits old → IsKept schema limits new → (es : List EntityChange) → AreEntityChanges old new es → (cs : List EdgeChange) → AreAllChanges old new cs
     → (layer : ShardChanges) → FromChanges schema old new vertical shard es cs layer → entries layer ≤ 2 * touched schema old new vertical shard
 few_entries schema limits old new vertical shard old_kept new_kept es are cs edges layer from =
     sum_of (finite.len layer.entities.deletes) (finite.len layer.entities.puts) (finite.len layer.postings.deletes) (finite.len layer.postings.puts) (finite.len layer.records)

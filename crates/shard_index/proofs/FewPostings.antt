@@ -13,7 +13,7 @@ use Rattle.uni_base.specs.declared.edge.EdgeRef.{EdgeRef}
 use Rattle.uni_base.specs.declared.limits.Limits.{Limits}
 use Rattle.uni_base.specs.EdgeOrder.{edge_cmp}
 use Rattle.uni_schema.specs.Schema.{Declarations}
-use Rattle.uni_table.specs.Changes.{rank_at, AreEdgeChanges}
+use Rattle.uni_table.specs.Changes.{rank_at}
 use Rattle.uni_table.specs.Contents.{Contents, edge_at}
 use Rattle.uni_table.specs.GraphKeys.{edge_total, exact_edges}
 use Rattle.uni_table.specs.TableState.{IsKept}
@@ -22,6 +22,7 @@ use Rattle.uni_table.specs.declared.command.EdgeRow.{EdgeRow}
 use Rattle.layer_stack.specs.declared.place.Place.{Place}
 use Rattle.layer_stack.specs.Places.{place_cmp}
 use Rattle.layer_stack.proofs.Order.{place_total, place_apart}
+use Rattle.shard_index.specs.Batches.{AreAllChanges}
 use Rattle.shard_index.specs.ChangedRows.{same_audience, is_posted, posting_for, shard_postings}
 use Rattle.shard_index.specs.Touched.{same_rows, same_posting, edge_posting, moved_edges}
 use Rattle.shard_index.proofs.ChangedPostings.{exact_audience, audience_itself, was, now, before, after, changes}
@@ -62,7 +63,7 @@ module _ (q : Place) where
       by true e false f = refl
       by false e b f = refl
 
-module _ (schema : Declarations) (limits : Limits) (old new : Contents) (vertical shard : ℕ) (old_kept : IsKept schema limits old) (new_kept : IsKept schema limits new) (cs : List EdgeChange) (are : AreEdgeChanges old new cs) where
+module _ (schema : Declarations) (limits : Limits) (old new : Contents) (vertical shard : ℕ) (old_kept : IsKept schema limits old) (new_kept : IsKept schema limits new) (cs : List EdgeChange) (are : AreAllChanges old new cs) where
   abbrev differs : EdgeRef → Bool
   differs edge = not (same_rows same_posting (edge_posting schema old vertical shard edge) (edge_posting schema new vertical shard edge))
 

@@ -14,7 +14,6 @@ use Rattle.uni_base.specs.declared.edge.EdgeRef.{EdgeRef}
 use Rattle.uni_base.specs.declared.edge.Key.TheVariants.{Id}
 use Rattle.uni_base.specs.declared.limits.Limits.{Limits}
 use Rattle.uni_schema.specs.Schema.{Declarations}
-use Rattle.uni_table.specs.Changes.{AreEdgeChanges}
 use Rattle.uni_table.specs.Contents.{Contents, audience_at, starts_at}
 use Rattle.uni_table.specs.Lists.{held_of}
 use Rattle.uni_table.specs.declared.change.EdgeChange.{EdgeChange}
@@ -23,6 +22,7 @@ use Rattle.forward_data.specs.declared.record.ForwardItem.{ForwardItem}
 use Rattle.forward_data.specs.declared.record.RecordKey.{RecordKey}
 use Rattle.forward_data.specs.Records.{Records, record_cmp, left_by}
 use Rattle.forward_data.proofs.Order.{record_total, record_apart}
+use Rattle.shard_index.specs.Batches.{AreAllChanges}
 use Rattle.shard_index.specs.ChangedRows.{same_audience, same_audiences, audience_of, record_within, changed_record, is_record, is_among, items_of, AreShardRecords}
 use Rattle.shard_index.specs.Rows.{record_at}
 use Rattle.shard_index.specs.Shards.{item_of, shard_rows}
@@ -60,7 +60,7 @@ audience_read table q edge starts =
 
 -- ---- the records of a shard
 
-module _ (schema : Declarations) (limits : Limits) (old new : Contents) (vertical shard : ℕ) (cs : List EdgeChange) (are : AreEdgeChanges old new cs) where
+module _ (schema : Declarations) (limits : Limits) (old new : Contents) (vertical shard : ℕ) (cs : List EdgeChange) (are : AreAllChanges old new cs) where
   pub record IsMoved (q : RecordKey) : Type 0 where
     edge : EdgeRef
     starts : starts_at q.type_no (Id q.id) edge ≡ true
@@ -73,7 +73,7 @@ module _ (schema : Declarations) (limits : Limits) (old new : Contents) (vertica
       by : (b : Bool) → same_audiences (audience_of c.before) (audience_of c.after) ≡ b → (if b then None else record_within schema vertical shard c.edge) ≡ Some q → IsMoved q
       by true t e = cc
       by false t e =
-          let known = (are.exact c).0 there in
+          let known = (are c).0 there in
           record {
             edge = c.edge;
             starts = own_starts schema vertical shard c.edge q e;

@@ -1,5 +1,4 @@
 pub mod Among
-pub mod BaseRows
 pub mod BatchShards
 pub mod ChangedEntities
 pub mod ChangedPostings
@@ -13,11 +12,12 @@ pub mod FewEntities
 pub mod FewEntries
 pub mod FewPostings
 pub mod FewRecords
+pub mod FullEdges
+pub mod FullLayers
 pub mod FullRecords
 pub mod FullRows
 pub mod IndexParts
 pub mod JoinedLayers
-pub mod KeptEdges
 pub mod KeptShards
 pub mod LoggedMaps
 pub mod MergedTables
@@ -31,7 +31,6 @@ pub mod ReadRanks
 pub mod ReadRecords
 pub mod ReadTerms
 pub mod RecordRows
-pub mod RecordRuns
 pub mod RecordsNoted
 pub mod SameItems
 pub mod SameLists

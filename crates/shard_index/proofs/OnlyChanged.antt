@@ -6,7 +6,7 @@ use Rattle.std.specs.Option.{unwrap_or}
 use Rattle.std.specs.Ordering.{is_eq}
 use Rattle.uni_base.specs.declared.limits.Limits.{Limits}
 use Rattle.uni_schema.specs.Schema.{Declarations}
-use Rattle.uni_table.specs.Changes.{AreEdgeChanges, AreEntityChanges}
+use Rattle.uni_table.specs.Changes.{AreEntityChanges}
 use Rattle.uni_table.specs.Contents.{Contents}
 use Rattle.uni_table.specs.TableState.{IsKept}
 use Rattle.uni_table.specs.declared.change.EdgeChange.{EdgeChange}
@@ -14,8 +14,7 @@ use Rattle.uni_table.specs.declared.change.EntityChange.{EntityChange}
 use Rattle.layer_stack.specs.declared.place.Place.{Place}
 use Rattle.layer_stack.specs.Postings.{PostingChanges}
 use Rattle.forward_data.specs.declared.record.ForwardItem.{ForwardItem}
-use Rattle.forward_data.specs.declared.record.RecordKey.{RecordKey}
-use Rattle.shard_index.specs.Batches.{has_entry, ChangesOnly}
+use Rattle.shard_index.specs.Batches.{AreAllChanges, has_entry, ChangesOnly}
 use Rattle.shard_index.specs.ChangedRows.{same_rank, same_audience, shard_entities, shard_postings}
 use Rattle.shard_index.specs.Entities.{EntityChanges}
 use Rattle.shard_index.specs.Rows.{ShardChanges}
@@ -56,7 +55,7 @@ module _ (schema : Declarations) (limits : Limits) (old new : Contents) (vertica
       (λ is. apart same_rank rank_itself _ _ (removed_differs old new es are schema vertical shard id is).0 ranks)
       (λ is. apart same_rank rank_itself _ _ (placed_differs old new es are schema vertical shard id is).0 ranks) t
 
-  module _ (cs : List EdgeChange) (are : AreEdgeChanges old new cs) where
+  module _ (cs : List EdgeChange) (are : AreAllChanges old new cs) where
     postings_only : (place : Place) → has_entry (shard_postings schema vertical shard cs) place ≡ true
         → finite.get (shard_rows schema old vertical shard).postings place ≡ finite.get (shard_rows schema new vertical shard).postings place → ⊥
     postings_only place t same =

@@ -55,7 +55,7 @@ before_more schema vertical d at =
 
 -- ---- the shard at a number
 
-at_number : (ds : List VerticalDef) (a v i s : ℕ) (d : VerticalDef) → slice_get ds v ≡ Some d → s < d.shards → i ≡ sum_by shards (take v ds) + s → slice_get (shards_from a ds) i ≡ Some (shard_place (a + v) s)
+pub at_number : (ds : List VerticalDef) (a v i s : ℕ) (d : VerticalDef) → slice_get ds v ≡ Some d → s < d.shards → i ≡ sum_by shards (take v ds) + s → slice_get (shards_from a ds) i ≡ Some (shard_place (a + v) s)
 at_number [] a v i s d at below e = cc
 at_number (x ∷ ds) a zero i s d at below e =
     let is : x ≡ d = cc in let first : a ≡ a + 0 = omega arith in let same : 0 + i ≡ s = omega (arith, e) in
@@ -151,6 +151,13 @@ few_before schema kept vertical =
     let verticals = kept.few_verticals in
     omega (arith, few schema.verticals kept.verticals, sum_by-take-le shards schema.verticals vertical, verticals)
 
+pub shard_under : (schema : Declarations) (vertical id : ℕ) (d : VerticalDef) → vertical_at schema vertical ≡ Some d → is_vertical d ≡ true → shard_of schema vertical id < d.shards
+shard_under schema vertical id d at declared =
+    let some : 1 ≤ d.shards = (bounds d declared).0 in
+    let is : shard_of schema vertical id ≡ id % d.shards = ap (λ o. option_map_or (λ (v : VerticalDef). id % v.shards) o 0) at in
+    let under : id % d.shards < d.shards = mod-lt id (omega (arith, some)) in
+    omega (arith, is, under)
+
 module _ (schema : Declarations) (kept : IsSchema schema) (vertical id : ℕ) (d : VerticalDef) (at : vertical_at schema vertical ≡ Some d) where
   declared : is_vertical d ≡ true
   declared =
@@ -158,11 +165,7 @@ module _ (schema : Declarations) (kept : IsSchema schema) (vertical id : ℕ) (d
       ∙ AllPass-from_list_all is_vertical schema.verticals kept.verticals vertical d (slice_get_within schema.verticals vertical d at)
 
   shard_below : shard_of schema vertical id < d.shards
-  shard_below =
-      let some : 1 ≤ d.shards = (bounds d declared).0 in
-      let is : shard_of schema vertical id ≡ id % d.shards = ap (λ o. option_map_or (λ (v : VerticalDef). id % v.shards) o 0) at in
-      let under : id % d.shards < d.shards = mod-lt id (omega (arith, some)) in
-      omega (arith, is, under)
+  shard_below = shard_under schema vertical id d at declared
 
   -- the shard of an id at its number
   pub found : slice_get (all_shards schema) (shards_before schema vertical + shard_of schema vertical id) ≡ shard_for schema vertical id

@@ -1,12 +1,14 @@
 -- The layers of a batch: what takes the rows of each shard from those of one table to those of another.
-use Rattle.std.specs.Prelude.{◌≡◌, ℕ, ◌+◌, ◌*◌, ◌≤◌, Bool, true, ◌||◌, List, [], ◌∷◌, ◌++◌, map}
+use Rattle.std.specs.Prelude.{◌≡◌, ◌↔◌, ℕ, ◌+◌, ◌*◌, ◌≤◌, Bool, true, ◌||◌, List, [], ◌∷◌, ◌++◌, map}
 use Rattle.std.specs.declared.cmp.Ordering.{Ordering}
 use Rattle.std.specs.FinMap as finite
-use Rattle.std.specs.List.{AllZip, range_with_len}
+use Rattle.std.specs.List.{AllZip, Contains, range_with_len}
 use Rattle.uni_schema.specs.declared.schema.VerticalDef.{VerticalDef}
 use Rattle.uni_schema.specs.Schema.{Declarations}
+use Rattle.uni_table.specs.Changes.{IsEdgeChange}
 use Rattle.uni_table.specs.Contents.{Contents}
 use Rattle.uni_table.specs.TableState.{TableState}
+use Rattle.uni_table.specs.declared.change.EdgeChange.{EdgeChange}
 use Rattle.layer_base.specs.Layers.{Changes}
 use Rattle.layer_stack.specs.declared.place.Place.{Place}
 use Rattle.forward_data.specs.declared.record.RecordKey.{RecordKey}
@@ -50,7 +52,14 @@ pub record TakesOver (schema : Declarations) (old new : Contents) (place : Shard
   pub only : ChangesOnly (shard_rows schema old place.vertical place.shard) (shard_rows schema new place.vertical place.shard) layer
   pub few : entries layer ≤ 2 * touched schema old new place.vertical place.shard
 
--- one layer for each of some shards takes its rows from what they were as a table's last batch ended to what
--- they are now
+-- one layer for each of some shards takes its rows from those of one table to those of another
+abbrev pub TakeFrom : Declarations → Contents → Contents → List ShardPlace → List ShardChanges → Type 0
+TakeFrom schema old new places layers = AllZip (TakesOver schema old new) places layers
+
+-- from what they were as a table's last batch ended to what they are now
 abbrev pub TakeOver : TableState → List ShardPlace → List ShardChanges → Type 0
-TakeOver table places layers = AllZip (TakesOver table.schema table.published table.contents) places layers
+TakeOver table places layers = TakeFrom table.schema table.published table.contents places layers
+
+-- exactly the changes of edges from one table to another, in whichever order
+abbrev pub AreAllChanges : Contents → Contents → List EdgeChange → Type 0
+AreAllChanges old new changes = (change : EdgeChange) → Contains changes change ↔ IsEdgeChange old new change

@@ -3,6 +3,7 @@ pub mod Begun
 pub mod ChangedRows
 pub mod Differences
 pub mod Entities
+pub mod FullEdges
 pub mod Joined
 pub mod Laws
 pub mod Notes

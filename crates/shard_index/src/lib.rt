@@ -12,7 +12,6 @@ mod layer;
 mod merge;
 mod places;
 mod ranks;
-mod records;
 mod stacks;
 mod version;
 

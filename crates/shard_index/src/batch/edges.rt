@@ -81,8 +81,8 @@ fn note_edge(
     Ok(())
 }
 
-// Notes the change of an edge of the shard, which keeps it in an index or in a record.
-fn note_kept(
+/// Notes the change of an edge of the shard, which keeps it in an index or in a record.
+pub(super) fn note_kept(
     alloc: Global,
     table: &Table,
     store: Store,

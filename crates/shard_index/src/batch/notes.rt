@@ -22,16 +22,16 @@ pub(super) struct ShardNotes {
 }
 
 impl ShardNotes {
-    // Nothing noted.
-    fn new(alloc: Global) -> ShardNotes
-        ensures { result ≡ no_notes }
+    // Nothing noted, with room for some postings under some terms.
+    fn new(alloc: Global, terms: usize, postings: usize) -> Result<ShardNotes, AllocError>
+        ensures { IfOk result (λ notes. notes ≡ no_notes) }
     {
-        ShardNotes {
+        Ok(ShardNotes {
             entities: EntityDelta::new(alloc),
-            postings: Delta::new(alloc),
+            postings: Delta::with_capacity(alloc, terms, postings)?,
             records: ForwardDelta::new(alloc),
             last: None,
-        }
+        })
     }
 
     /// Notes that an entity is no longer in the shard.
@@ -66,11 +66,13 @@ impl ShardNotes {
     }
 }
 
-/// Nothing noted of any shard.
+/// Nothing noted of any shard, with room in each for so many terms, and for its part of so many postings.
 pub(super) fn empty_notes(
     alloc: Global,
     schema: &Schema,
     firsts: &[usize],
+    terms: usize,
+    postings: usize,
 ) -> Result<Vec<ShardNotes>, AllocError>
     requires { AreFirsts schema.now firsts.now }
     ensures { IfOk result (λ notes. notes.items ≡ replicate (length (all_shards schema.now)) no_notes) }
@@ -78,7 +80,7 @@ pub(super) fn empty_notes(
     let count = firsts[schema.verticals() as usize];
     let mut notes = Vec::with_capacity(alloc, count)?;
     for _ in 0..count {
-        notes.push(ShardNotes::new(alloc))?;
+        notes.push(ShardNotes::new(alloc, terms, postings / count)?)?;
     }
     Ok(notes)
 }

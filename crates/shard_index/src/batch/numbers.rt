@@ -9,7 +9,7 @@ use uni_base::{EdgeRef, EntityId, Key};
 use uni_schema::{Origin, Schema, Store, TypeDef};
 
 /// The number of the first shard of each vertical, and at the end how many shards there are.
-pub(super) fn first_shards(alloc: Global, schema: &Schema) -> Result<Vec<usize>, AllocError>
+pub(crate) fn first_shards(alloc: Global, schema: &Schema) -> Result<Vec<usize>, AllocError>
     ensures { IfOk result (λ firsts. AreFirsts schema.now firsts.items) }
 {
     let mut firsts = Vec::with_capacity(alloc, schema.verticals() as usize + 1)?;

@@ -1,57 +1,68 @@
-use Rattle.std.proofs.Common.{rules, ◌≡◌, List, map, ap, ◌∙◌, sym, subst}
-use Rattle.std.specs.List.{filter_map}
-use Rattle.uni_base.specs.declared.edge.Held.{Held}
-use Rattle.uni_base.specs.declared.entity.DocKey.{DocKey}
-use Rattle.uni_schema.specs.Schema.{Declarations}
-use Rattle.uni_table.specs.Lists.{shard_edges}
-use Rattle.uni_table.specs.Ranked.{ranked}
-use Rattle.uni_table.specs.Shards.{AreDeclared}
-use Rattle.layer_base.specs.Layers.{from_log}
-use Rattle.layer_stack.specs.Postings.{putting_all}
-use Rattle.shard_index.specs.Entities.{putting_entities}
-use Rattle.shard_index.specs.Shards.{entity_row, posting_row, shard_rows}
-use Rattle.shard_index.proofs.FullRows.{records_full}
-use Rattle.shard_index.proofs.KeptEdges.{edges_declared, edges_rise}
-use Rattle.shard_index.proofs.StackLaws.{base_stands}
-use Rattle.shard_index.proofs.RecordRows.{records_in}
-use Rattle.shard_index.proofs.RecordRuns.{AreRising}
+use Rattle.std.proofs.Common.{rules, arith, ◌≡◌, ◌+◌, ◌<◌, Some, length, subst, sym, ap, ◌∙◌}
+use Rattle.std.specs.Prelude.{slice_index_or}
+use Rattle.std.proofs.lemmas.List.{get_or_default}
+use Rattle.std.proofs.lemmas.Result.{IfOk-weaker}
+use Rattle.uni_schema.specs.Schema.{Declarations, vertical_at}
+use Rattle.shard_index.specs.Numbers.{AreFirsts}
+use Rattle.shard_index.specs.Rows.{ShardChanges, layer_over, no_rows}
+use Rattle.shard_index.proofs.FullLayers.{layer_stands, layer_within, no_shard}
+use Rattle.shard_index.proofs.ShardNumbers.{firsts_long}
+use Rattle.shard_index.proofs.StackLaws.{layer_over-empty}
 use Rattle.shard_index.proofs.layer.ShardLayer.base.Goals as goal
 
-pub posting_layer-requires : goal.posting_layer-requires
-posting_layer-requires c =
-    let schema = c.args.table.now.schema in let contents = c.args.table.now.contents in
-    let held : c.as_slice-2.result.now ≡ shard_edges schema contents c.args.vertical c.args.shard = search rules in
-    subst (AreDeclared schema) (sym held) (edges_declared schema contents c.args.vertical c.args.shard)
+pub returns-then-shard-vertical : goal.returns-then-shard-vertical
+returns-then-shard-vertical c =
+    let table = c.args.table.now in let d = c.vertical.result.now in
+    let same : c.deref.result.now ≡ table.schema = search rules in
+    let at : vertical_at table.schema c.args.vertical ≡ Some d = subst (λ (s : Declarations). vertical_at s c.args.vertical ≡ Some d) same c.vertical.ensures.at in
+    IfOk-weaker c.empty.result _ _
+    (λ layer is. ap (layer_over no_rows) is ∙ layer_over-empty no_rows ∙ sym (no_shard table.schema table.contents c.args.vertical c.args.shard d at c.vertical.ensures.kept c.if-shard-vertical.true)) c.empty.ensures
 
-pub record_layer-requires-clause-declared : goal.record_layer-requires-clause-declared
-record_layer-requires-clause-declared c =
-    let schema = c.args.table.now.schema in let contents = c.args.table.now.contents in
-    let held : c.as_slice-3.result.now ≡ shard_edges schema contents c.args.vertical c.args.shard = search rules in
-    let same : c.deref.result.now ≡ schema = search rules in
-    subst (λ (s : Declarations). AreDeclared s c.as_slice-3.result.now) (sym same) (subst (AreDeclared schema) (sym held) (edges_declared schema contents c.args.vertical c.args.shard))
+pub index-requires : goal.index-requires
+index-requires c =
+    let table = c.args.table.now in
+    let same : c.deref-2.result.now ≡ table.schema = search rules in
+    let firsts : AreFirsts table.schema c.in_ok-firsts.firsts.items = subst (λ (s : Declarations). AreFirsts s c.in_ok-firsts.firsts.items) same (c.in_ok-firsts.ensures {u = tt}) in
+    let long = firsts_long table.schema c.in_ok-firsts.firsts.items firsts in
+    search (rules, arith)
 
-pub record_layer-requires-clause-sorted : goal.record_layer-requires-clause-sorted
-record_layer-requires-clause-sorted c =
-    let schema = c.args.table.now.schema in let contents = c.args.table.now.contents in
-    let held : c.as_slice-3.result.now ≡ shard_edges schema contents c.args.vertical c.args.shard = search rules in
-    subst AreRising (sym held) (edges_rise schema c.args.table.now.limits contents c.args.vertical c.args.shard c.schema.ensures.kept)
+pub overflow_add-index : goal.overflow_add-index
+overflow_add-index c =
+    let table = c.args.table.now in let d = c.vertical.result.now in let firsts = c.in_ok-firsts.firsts.items in let layers = c.in_ok-layers.layers.items in
+    let same : c.deref.result.now ≡ table.schema = search rules in
+    let again : c.deref-2.result.now ≡ table.schema = search rules in
+    let at : vertical_at table.schema c.args.vertical ≡ Some d = subst (λ (s : Declarations). vertical_at s c.args.vertical ≡ Some d) same c.vertical.ensures.at in
+    let are : AreFirsts table.schema firsts = subst (λ (s : Declarations). AreFirsts s firsts) again (c.in_ok-firsts.ensures {u = tt}) in
+    let here : c.args.vertical < length firsts = omega (arith, firsts_long table.schema firsts are, c.requires) in
+    let first : c.index.result.now ≡ slice_index_or firsts c.args.vertical 0 = c.index.ensures ∙ get_or_default firsts c.args.vertical c.index.result.now 0 here in
+    let number : c.index.result.now + c.args.shard ≡ slice_index_or firsts c.args.vertical 0 + c.args.shard = ap (λ n. n + c.args.shard) first in
+    let within = layer_within table.schema table.contents firsts are layers (c.in_ok-layers.ensures {u = tt}) c.args.vertical c.args.shard (c.index.result.now + c.args.shard) d at c.if-shard-vertical.false number in
+    search (rules, arith)
+
+pub index-requires-2 : goal.index-requires-2
+index-requires-2 c =
+    let table = c.args.table.now in let d = c.vertical.result.now in let firsts = c.in_ok-firsts.firsts.items in let layers = c.in_ok-layers.layers.items in
+    let same : c.deref.result.now ≡ table.schema = search rules in
+    let again : c.deref-2.result.now ≡ table.schema = search rules in
+    let at : vertical_at table.schema c.args.vertical ≡ Some d = subst (λ (s : Declarations). vertical_at s c.args.vertical ≡ Some d) same c.vertical.ensures.at in
+    let are : AreFirsts table.schema firsts = subst (λ (s : Declarations). AreFirsts s firsts) again (c.in_ok-firsts.ensures {u = tt}) in
+    let here : c.args.vertical < length firsts = omega (arith, firsts_long table.schema firsts are, c.requires) in
+    let first : c.index.result.now ≡ slice_index_or firsts c.args.vertical 0 = c.index.ensures ∙ get_or_default firsts c.args.vertical c.index.result.now 0 here in
+    let number : c.index.result.now + c.args.shard ≡ slice_index_or firsts c.args.vertical 0 + c.args.shard = ap (λ n. n + c.args.shard) first in
+    let within = layer_within table.schema table.contents firsts are layers (c.in_ok-layers.ensures {u = tt}) c.args.vertical c.args.shard (c.index.result.now + c.args.shard) d at c.if-shard-vertical.false number in
+    search (rules, arith)
 
 pub returns : goal.returns
-unfolding shard_rows
 returns c =
-    let schema = c.args.table.now.schema in let contents = c.args.table.now.contents in
-    let vertical = c.args.vertical in let shard = c.args.shard in
-    let kept = shard_edges schema contents vertical shard in
-    let docs : c.as_slice.result.now ≡ ranked schema contents vertical shard = search rules in
-    let held : c.as_slice-2.result.now ≡ kept = search rules in
-    let held_again : c.as_slice-3.result.now ≡ kept = search rules in
-    let same : c.deref.result.now ≡ schema = search rules in
-    let entities : c.join.result.entities ≡ c.in_ok-entities.entities = search rules in
-    let postings : c.join.result.postings ≡ c.in_ok-postings.postings = search rules in
-    let records : c.join.result.records ≡ c.in_ok-forward.forward = search rules in
-    base_stands c.join.result (shard_rows schema contents vertical shard) (record {
-      entities = entities ∙ c.in_ok-entities.ensures {u = tt} ∙ ap (λ (ks : List DocKey). putting_entities (from_log (map entity_row ks))) docs;
-      postings = postings ∙ c.in_ok-postings.ensures {u = tt} ∙ ap (λ (hs : List Held). putting_all (from_log (filter_map (posting_row schema contents) hs))) held;
-      records = records ∙ c.in_ok-forward.ensures {u = tt} ∙ (λ i. records_in (same i) (held_again i) (held_again i));
-      full = records_full schema kept;
-    })
+    let table = c.args.table.now in let d = c.vertical.result.now in let firsts = c.in_ok-firsts.firsts.items in let layers = c.in_ok-layers.layers.items in
+    let same : c.deref.result.now ≡ table.schema = search rules in
+    let again : c.deref-2.result.now ≡ table.schema = search rules in
+    let at : vertical_at table.schema c.args.vertical ≡ Some d = subst (λ (s : Declarations). vertical_at s c.args.vertical ≡ Some d) same c.vertical.ensures.at in
+    let are : AreFirsts table.schema firsts = subst (λ (s : Declarations). AreFirsts s firsts) again (c.in_ok-firsts.ensures {u = tt}) in
+    let here : c.args.vertical < length firsts = omega (arith, firsts_long table.schema firsts are, c.requires) in
+    let first : c.index.result.now ≡ slice_index_or firsts c.args.vertical 0 = c.index.ensures ∙ get_or_default firsts c.args.vertical c.index.result.now 0 here in
+    let number : c.index.result.now + c.args.shard ≡ slice_index_or firsts c.args.vertical 0 + c.args.shard = ap (λ n. n + c.args.shard) first in
+    let base : ShardChanges = c.index-2.result.now in
+    IfOk-weaker c.share.result _ _
+    (λ layer is. ap (layer_over no_rows) is
+    ∙ layer_stands table.schema table.contents firsts are layers (c.in_ok-layers.ensures {u = tt}) c.args.vertical c.args.shard (c.index.result.now + c.args.shard) d at c.if-shard-vertical.false number base c.index-2.ensures) c.share.ensures

@@ -1,0 +1,31 @@
+-- All edges of a table, as changes of what holds none.
+use Rattle.std.specs.Prelude.{◌≡◌, List, Some, None}
+use Rattle.uni_table.specs.Contents.{Contents, audience_at, edge_at, empty}
+use Rattle.uni_table.specs.Ranked.{doc_at}
+use Rattle.uni_table.specs.TableState.{TableState}
+use Rattle.uni_table.specs.declared.change.EdgeChange.{EdgeChange}
+use Rattle.uni_table.specs.declared.graph.numbers.Source.{Source}
+use Rattle.uni_table.specs.declared.table.reached.Target.{Target}
+use Rattle.shard_index.specs.Batches.{AreAllChanges}
+use Rattle.shard_index.specs.Laws.{edge_to}
+use Rattle.shard_index.specs.Notes.{NotesEdges}
+use Rattle.shard_index.specs.declared.batch.notes.ShardNotes.{ShardNotes}
+
+-- what a table has of an edge of a type and key, where it leads to a target
+pub record IsTargetOf (table : Contents) (source : Source) (target : Target) : Type 0 where
+  pub audience : audience_at table (edge_to source.type_no source.key target.doc.id) ≡ Some target.audience
+  pub doc : doc_at table target.doc.id ≡ Some target.doc
+
+-- the edge of a type and key to a target, as a change of one that was none
+abbrev pub change_to : Contents → Source → Target → EdgeChange
+change_to table source target = record {
+  edge = edge_to source.type_no source.key target.doc.id;
+  before = None;
+  after = edge_at table (edge_to source.type_no source.key target.doc.id);
+  rank_before = None;
+  rank_after = Some target.doc.rank;
+}
+
+-- all edges of a table are noted of all shards, as changes of what holds none
+abbrev pub NotesAll : TableState → List ShardNotes → List ShardNotes → Type 0
+NotesAll table old new = (edges : List EdgeChange) × AreAllChanges empty table.contents edges × NotesEdges table edges old new
