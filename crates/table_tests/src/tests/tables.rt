@@ -3,6 +3,7 @@ use super::schema;
 use listing::lists;
 use noisy::{Noise, is_listed};
 use reading::{changes, part};
+use sources::has_sources;
 use std::alloc::Global;
 use std::sync::Arc;
 use std::test::Fail;
@@ -13,6 +14,7 @@ mod changed;
 mod listing;
 mod noisy;
 mod reading;
+mod sources;
 
 // After the first line: users in two shards and photos in one: friends, where users live, the photos that they are tagged in,
 // and the users whom a photo shows. A bar ends a line.
@@ -51,7 +53,16 @@ const ROWS: &[u8] =
     b"entity 0 1 50;entity 0 2 90;entity 0 3 90;entity 0 4 10;entity 0 5 70;entity 0 6 60;entity 1 101 5;entity 1 102 9;edge 0 1 5 public 0;edge 0 1 3 public 0;edge 0 1 2 public 0;edge 1 rome 6 public 0;edge 1 rome 2 public 0;edge 1 rome 5 public 0;edge 1 rome 4 public 0;edge 2 5 102 public 0;edge 2 2 101 public 0;edge 2 3 102 public 0;edge 3 102 4 public 0;edge 3 102 1 public 0";
 
 const LISTS: &[u8] =
-    b"counts=8 12;friends 1=0 1 2,0 1 3,0 1 5;ranked 0 0=2,6,4;ranked 0 1=3,5,1;ranked 1 0=102,101;touching 3=0 1 3,2 3 102;kept 1 0=2 2 101,2 3 102,2 5 102,3 102 1,3 102 4;kept 0 1=0 1 3,0 1 5,1 rome 5;kept 0 0=0 1 2,1 rome 2,1 rome 4,1 rome 6";
+    b"counts=8 12;friends 1=0 1 2,0 1 3,0 1 5;ranked 0 0=2,6,4;ranked 0 1=3,5,1;ranked 1 0=102,101;touching 3=0 1 3,2 3 102;kept 1 0=2 2 101,2 3 102,2 5 102,3 102 1,3 102 4;kept 0 1=0 1 3,0 1 5,1 rome 5;kept 0 0=0 1 2,1 rome 2,1 rome 4,1 rome 6;everyone=1:->0/50,2:->0/90,3:->0/90,4:->0/10,5:->0/70,6:->0/60,101:->1/5,102:->1/9";
+
+// Where the edges of the small table start, each with what its edges lead to.
+const SOURCES: &[u8] = b"0 1:2 3 5,1 rome:2 5 6 4,2 2:101,2 3:102,2 5:102,3 102:1 4";
+
+// A rank moves, one user goes, an edge is cut, and one is put at a new start.
+const STARTS: &[u8] =
+    b"entity 0 5 95;gone 6;cut 2 2 101;edge 0 4 4 only 0;edge 1 rome 1 0:5 0;everyone=1:->0/50,2:->0/90,3:->0/90,4:->0/10,5:->0/95,101:->1/5,102:->1/9";
+
+const STARTED: &[u8] = b"0 1:5 2 3,0 4:4,1 rome:5 2 1 4,2 2:,2 3:102,2 5:102,3 102:1 4";
 
 // A rank moves, an edge to its own source is put, users go, and what is not there is cut. Then a user that
 // is gone is a photo.
@@ -133,6 +144,22 @@ fn tight() -> Limits {
 const PHOTO: &[u8] = b"entity 1 100 1";
 
 const FULL: &[u8] = b"refused 17 edge 3 100 65 public 0;edge 3 100 64 only 9;counts=66 64";
+
+// Makes steps over the small table, and looks at where its edges start then.
+fn start_after(alloc: Global, steps: &[u8], sources: &[u8]) -> Result<(), Fail> {
+    let mut table = small(alloc, Limits::standard())?;
+    follow(&mut table, steps)?;
+    match has_sources(alloc, &table, sources)? {
+        true => Ok(()),
+        false => Err(Fail::from("other sources")),
+    }
+}
+
+#[test]
+fn sources_with_their_targets(rt: HostRuntime) -> Result<(), Fail> {
+    start_after(rt.alloc(), LISTS, SOURCES)?;
+    start_after(rt.alloc(), STARTS, STARTED)
+}
 
 #[test]
 fn lists_of_a_small_table(rt: HostRuntime) -> Result<(), Fail> {

@@ -45,18 +45,29 @@ fn is_edge_change(change: &EdgeChange, text: &[u8]) -> bool {
         && is_edge_row(change.after, after)
 }
 
-// Whether the entities that the batch changed are some in order, which commas part.
-pub(super) fn has_entity_changes(table: &Table, texts: &[u8]) -> Option<bool> {
-    let changes = table.changed_entities().ok()?;
+// Whether changes of entities are some in order, which commas part.
+fn are_entity_changes(changes: &[EntityChange], texts: &[u8]) -> bool {
     let mut rest = texts;
-    for change in changes.as_slice() {
+    for change in changes {
         let (text, others) = part(rest, b',');
         if !is_entity_change(change, text) {
-            return Some(false);
+            return false;
         }
         rest = others;
     }
-    Some(rest.is_empty())
+    rest.is_empty()
+}
+
+// Whether the entities that the batch changed are some.
+pub(super) fn has_entity_changes(table: &Table, texts: &[u8]) -> Option<bool> {
+    let changes = table.changed_entities().ok()?;
+    Some(are_entity_changes(changes.as_slice(), texts))
+}
+
+// Whether all entities, as changes of ids that were none, are some.
+pub(super) fn has_everyone(table: &Table, texts: &[u8]) -> Option<bool> {
+    let changes = table.all_entities().ok()?;
+    Some(are_entity_changes(changes.as_slice(), texts))
 }
 
 // Whether the edges that the batch changed, or the rank of whose target it changed, are some in order,

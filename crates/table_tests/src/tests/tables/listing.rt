@@ -1,11 +1,11 @@
 //! What a table lists, beside what a step says.
-use super::changed::{has_edge_changes, has_entity_changes};
+use super::changed::{has_edge_changes, has_entity_changes, has_everyone};
 use super::reading::{id, number, part, vertical};
 use uni_base::{Audience, DocKey, EdgeRef, Fields, Held, Key, cut_at, read_between, read_id};
 use uni_table::Table;
 
 // Whether a key is that of a text: an id, or a word that spells none.
-fn is_key(key: &Key, text: &[u8]) -> bool {
+pub(super) fn is_key(key: &Key, text: &[u8]) -> bool {
     match key {
         Key::Id(id) => read_id(text) == Some(*id),
         Key::Word(word) => read_id(text).is_none() && word.bytes() == text,
@@ -136,8 +136,8 @@ fn is_circle(type_no: u16, key: &Key, text: &[u8]) -> bool {
 }
 
 // Whether the table has what is listed: `counts`, `friends USER`, `ranked VERTICAL SHARD`,
-// `kept VERTICAL SHARD`, `touching ID`, `ending PUBLISH`, `audience EDGE`, `entities changed` or
-// `edges changed`.
+// `kept VERTICAL SHARD`, `touching ID`, `ending PUBLISH`, `audience EDGE`, `everyone`, `entities changed`
+// or `edges changed`.
 pub(super) fn lists(table: &Table, of: &[u8], texts: &[u8]) -> Option<bool> {
     let (kind, of) = part(of, b' ');
     if kind == b"counts".as_slice() {
@@ -154,6 +154,8 @@ pub(super) fn lists(table: &Table, of: &[u8], texts: &[u8]) -> Option<bool> {
         has_ending(table, of, texts)
     } else if kind == b"audience".as_slice() {
         has_audience(table, of, texts)
+    } else if kind == b"everyone".as_slice() {
+        has_everyone(table, texts)
     } else if kind == b"entities".as_slice() {
         has_entity_changes(table, texts)
     } else if kind == b"edges".as_slice() {
