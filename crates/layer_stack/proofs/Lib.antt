@@ -2,6 +2,7 @@ pub mod Grouped
 pub mod Heads
 pub mod Held
 pub mod Laid
+mod Marked
 pub mod Merged
 pub mod Order
 pub mod Directories

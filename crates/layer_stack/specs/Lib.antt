@@ -3,6 +3,7 @@ pub mod Postings
 pub mod Runs
 pub mod Spans
 pub mod Directories
+pub mod Marks
 pub mod Stacks
 pub mod Words
 pub mod Sources

@@ -10,6 +10,7 @@ ghost use Rattle.layer_stack.specs.Readers.{AreBefore};
 
 use crate::TermKey;
 use crate::joined::{Joined, after, next};
+use crate::marks::Marks;
 use crate::short_term::ShortTerm;
 use crate::term_spans::TermSpans;
 use crate::words::is_passed;
@@ -31,6 +32,7 @@ pub(crate) struct Span {
 #[derive(Drop)]
 pub(crate) struct Directory {
     spans: IndexMap<ShortTerm, TermSpans>,
+    marks: Marks,
 }
 
 impl Model for Directory {
@@ -38,12 +40,13 @@ impl Model for Directory {
     ghost use Rattle.layer_stack.specs.declared.place.TermKey.{TermKey};
     ghost use Rattle.layer_stack.specs.declared.term_spans.TermSpans.{TermSpans};
     ghost use Rattle.layer_stack.specs.Directories.{IsDirectory};
+    ghost use Rattle.layer_stack.specs.Marks.{AreMarked};
 
     ghost Value = { List (TermKey × TermSpans) };
 
     ghost view = { λ d. d.spans.entries };
 
-    ghost invariant = { λ d. IsDirectory d.spans.entries };
+    ghost invariant = { λ d. IsDirectory d.spans.entries × AreMarked d.marks d.spans.entries };
 }
 
 impl Directory {
@@ -68,7 +71,8 @@ impl Directory {
             deleted = after(deleted, joined.deletes);
         }
         spans.shrink_to_fit();
-        Ok(Directory { spans })
+        let marks = Marks::of(alloc, &spans)?;
+        Ok(Directory { spans, marks })
     }
 
     // How many terms there are.
@@ -79,12 +83,15 @@ impl Directory {
     }
 
     // Where the rows of a term stand. None exactly where it has none. Where there are no terms at
-    // all no hash is made.
+    // all, and where the marks rule it out, no hash is made.
     pub(crate) fn spans(&self, term: &TermKey) -> Option<TermSpans>
         ensures puts { puts_in result ≡ span_of term.now (put_spans self.now) }
         ensures deletes { deletes_in result ≡ span_of term.now (delete_spans self.now) }
     {
         if self.spans.is_empty() {
+            return None;
+        }
+        if self.marks.rule_out(term) {
             return None;
         }
         self.spans.get(term).copied()

@@ -10,6 +10,7 @@ mod directory;
 mod front;
 mod joined;
 mod layer;
+mod marks;
 mod merge;
 mod merging;
 mod part;

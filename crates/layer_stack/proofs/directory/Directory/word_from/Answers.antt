@@ -23,10 +23,10 @@ returns-in_err-term c =
     let parts : IsPartitionPoint (λ e. p e ≡ true) (λ e. p e ≡ false) c.args.self.now c.partition_point-at.result =
     subst (λ es. IsPartitionPoint (λ e. p e ≡ true) (λ e. p e ≡ false) es c.partition_point-at.result) c.self.view_is
     (c.partition_point-at.ensures.partitioned p (always_returns_same _ _ _ (λ a r f k. search rules))
-    (partitioned c.self.inside.spans.entries c.self.invariant.sorted c.args.strict target)) in
-    let sorted : T (is_sorted term_cmp c.args.self.now) = subst (λ es. T (is_sorted term_cmp es)) c.self.view_is c.self.invariant.sorted in
+    (partitioned c.self.inside.spans.entries c.self.invariant.0.sorted c.args.strict target)) in
+    let sorted : T (is_sorted term_cmp c.args.self.now) = subst (λ es. T (is_sorted term_cmp es)) c.self.view_is c.self.invariant.0.sorted in
     subst (IsWordFrom (λ t. has_spans t c.args.self.now) c.args.type_no c.args.from.now c.args.strict) (sym c.from_residual.ensures)
-    (subst (λ (has : TermKey → Bool). IsWordFrom has c.args.type_no c.args.from.now c.args.strict None) (λ i t. same_terms t c.self.inside.spans.entries c.args.self.now c.self.invariant c.self.view_is i)
+    (subst (λ (has : TermKey → Bool). IsWordFrom has c.args.type_no c.args.from.now c.args.strict None) (λ i t. same_terms t c.self.inside.spans.entries c.args.self.now c.self.invariant.0 c.self.view_is i)
     (none_found c.args.type_no c.args.from.now c.args.strict c.args.self.now sorted c.partition_point-at.result parts (ap (λ es. slice_get es c.partition_point-at.result) (sym c.self.view_is) ∙ sym (c.in_err-term.ensures {u = tt}).entry)))
 
 pub returns : goal.returns
@@ -36,9 +36,9 @@ returns c =
     let parts : IsPartitionPoint (λ e. p e ≡ true) (λ e. p e ≡ false) c.args.self.now c.partition_point-at.result =
     subst (λ es. IsPartitionPoint (λ e. p e ≡ true) (λ e. p e ≡ false) es c.partition_point-at.result) c.self.view_is
     (c.partition_point-at.ensures.partitioned p (always_returns_same _ _ _ (λ a r f k. search rules))
-    (partitioned c.self.inside.spans.entries c.self.invariant.sorted c.args.strict target)) in
-    let sorted : T (is_sorted term_cmp c.args.self.now) = subst (λ es. T (is_sorted term_cmp es)) c.self.view_is c.self.invariant.sorted in
+    (partitioned c.self.inside.spans.entries c.self.invariant.0.sorted c.args.strict target)) in
+    let sorted : T (is_sorted term_cmp c.args.self.now) = subst (λ es. T (is_sorted term_cmp es)) c.self.view_is c.self.invariant.0.sorted in
     let row : TermKey × TermSpans = (c.in_ok-term.term.now, c.in_ok-term._spans.now) in
     subst (IsWordFrom (λ t. has_spans t c.args.self.now) c.args.type_no c.args.from.now c.args.strict) (sym c.word_at.ensures)
-    (subst (λ (has : TermKey → Bool). IsWordFrom has c.args.type_no c.args.from.now c.args.strict (word_at c.args.type_no row.0)) (λ i t. same_terms t c.self.inside.spans.entries c.args.self.now c.self.invariant c.self.view_is i)
+    (subst (λ (has : TermKey → Bool). IsWordFrom has c.args.type_no c.args.from.now c.args.strict (word_at c.args.type_no row.0)) (λ i t. same_terms t c.self.inside.spans.entries c.args.self.now c.self.invariant.0 c.self.view_is i)
     (some_found c.args.type_no c.args.from.now c.args.strict c.args.self.now sorted c.partition_point-at.result parts row (ap (λ es. slice_get es c.partition_point-at.result) (sym c.self.view_is) ∙ sym (c.in_ok-term.ensures {u = tt}).entry)))
