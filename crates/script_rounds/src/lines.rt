@@ -201,7 +201,7 @@ fn give_back(buffer: &mut Vec<u8>, passed: usize)
     ensures { buffer.new.items ≡ drop passed buffer.old.items }
 {
     let rest = buffer.len() - passed;
-    buffer.rotate_left(passed);
+    buffer.copy_within(passed.., 0);
     buffer.truncate(rest);
 }
 
