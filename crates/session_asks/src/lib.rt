@@ -2,6 +2,7 @@
 #![tactic(auto)]
 
 mod asks;
+mod idle;
 mod session;
 mod sessions;
 

@@ -1,9 +1,10 @@
-ghost use Rattle.std.specs.Prelude.{◌≤◌, All, IfOk, length};
+ghost use Rattle.std.specs.Prelude.{◌≤◌, ◌<◌, All, IfOk, length};
 ghost use Rattle.std.specs.Thread.{IsSync};
 ghost use Rattle.session_asks.specs.Replies.{IsAsk};
 ghost use Rattle.session_asks.specs.Seats.{AllHaveTaken, AllMayTake, AllReplied};
 ghost use Rattle.version_catalog.specs.Seats.{settings_of};
 
+use crate::idle::{IdleWorkers, TwoParts};
 use crate::{AskList, ask_session};
 use rack_aggregate::Gate;
 use replica_pick::Chooser;
@@ -16,9 +17,10 @@ use version_catalog::{Catalogue, Session};
 // The answers of sessions, a list for each.
 type Answers = Result<Vec<AnswerList>, AllocError>;
 
-/// Answers the asks of sessions, at once where there are workers for it: the sessions are halved by the number
-/// of their asks into at most as many parts as there are workers. The sessions of a part are answered one
-/// after the other, and the workers are shared among the sessions that ask.
+/// Answers the asks of sessions, at once where there are workers for it. Where a worker has nothing to do, the
+/// sessions that another has yet to answer are halved by the number of their asks, and both halves are answered at
+/// the same time; where none has, they are answered one after the other. The workers are shared among the sessions
+/// that ask.
 pub fn ask_sessions<R: Threads + Wait + Sync, C: Chooser + Sync, G: Gate + Sync>(
     rt: &R,
     alloc: Global,
@@ -36,8 +38,9 @@ pub fn ask_sessions<R: Threads + Wait + Sync, C: Chooser + Sync, G: Gate + Sync>
     ensures replied { IfOk result (λ answers. AllReplied (settings_of catalogue.now).schema sessions.old sessions.new asks.now answers.items) }
 {
     let each = share_of(workers, asking(asks));
+    let idle = IdleWorkers::new(workers - 1);
     ask_parts(
-        rt, alloc, catalogue, sessions, asks, workers, each, chooser, gate,
+        rt, alloc, catalogue, sessions, asks, each, &idle, chooser, gate,
     )
 }
 
@@ -54,7 +57,8 @@ pub(crate) fn share_of(workers: u32, asking: usize) -> u32
     (workers / asking.max(1)).max(1)
 }
 
-// Answers sessions in so many parts at once, each query by so many workers.
+// Answers sessions, each query by so many workers: the first that asks and then the others, or half of them beside
+// the other half where a worker is idle.
 #[cycle(parts)]
 fn ask_parts<R: Threads + Wait + Sync, C: Chooser + Sync, G: Gate + Sync>(
     rt: &R,
@@ -62,8 +66,8 @@ fn ask_parts<R: Threads + Wait + Sync, C: Chooser + Sync, G: Gate + Sync>(
     catalogue: &Catalogue,
     sessions: &mut [Session],
     asks: &[AskList],
-    parts: u32,
     workers: u32,
+    idle: &IdleWorkers,
     chooser: &C,
     gate: &G,
 ) -> Answers
@@ -73,14 +77,17 @@ fn ask_parts<R: Threads + Wait + Sync, C: Chooser + Sync, G: Gate + Sync>(
     ensures taken { AllHaveTaken catalogue.now sessions.old sessions.new asks.now }
     ensures replied { IfOk result (λ answers. AllReplied (settings_of catalogue.now).schema sessions.old sessions.new asks.now answers.items) }
 {
-    if parts <= 1 || asking(asks) <= 1 {
+    if asks.len() <= 1 || asking(asks) <= 1 {
         return ask_in_turn(rt, alloc, catalogue, sessions, asks, workers, chooser, gate);
     }
-    let middle = middle(asks);
+    let at_once = idle.take();
+    let most = if at_once { asks_of(asks) / 2 } else { 0 };
+    let middle = middle(asks, most);
     let (front_asks, back_asks) = asks.split_at(middle);
     let (front, back) = sessions.split_at_mut(middle);
     let (answers, others) = ask_both(
-        rt, alloc, catalogue, front, front_asks, back, back_asks, parts, workers, chooser, gate,
+        rt, alloc, catalogue, front, front_asks, back, back_asks, at_once, workers, idle, chooser,
+        gate,
     );
     let mut all = answers?;
     let mut others = others?;
@@ -88,7 +95,7 @@ fn ask_parts<R: Threads + Wait + Sync, C: Chooser + Sync, G: Gate + Sync>(
     Ok(all)
 }
 
-// Answers two parts of sessions, at the same time: the front in half of so many parts, the back in the others.
+// Answers two parts of sessions: at the same time, where a worker was taken for it, or one after the other.
 #[cycle(parts)]
 fn ask_both<R: Threads + Wait + Sync, C: Chooser + Sync, G: Gate + Sync>(
     rt: &R,
@@ -98,12 +105,13 @@ fn ask_both<R: Threads + Wait + Sync, C: Chooser + Sync, G: Gate + Sync>(
     front_asks: &[AskList],
     back: &mut [Session],
     back_asks: &[AskList],
-    parts: u32,
+    at_once: bool,
     workers: u32,
+    idle: &IdleWorkers,
     chooser: &C,
     gate: &G,
 ) -> (Answers, Answers)
-    requires parts { 2 ≤ parts }
+    requires some { (1 ≤ length front_asks.now) × (1 ≤ length back_asks.now) }
     requires workers { 1 ≤ workers }
     requires front { AllMayTake catalogue.now front.old front_asks.now }
     requires front_typed { All (All (IsAsk (settings_of catalogue.now).schema)) front_asks.now }
@@ -114,8 +122,16 @@ fn ask_both<R: Threads + Wait + Sync, C: Chooser + Sync, G: Gate + Sync>(
     ensures back { AllHaveTaken catalogue.now back.old back.new back_asks.now }
     ensures back_answers { IfOk result.1 (λ answers. AllReplied (settings_of catalogue.now).schema back.old back.new back_asks.now answers.items) }
 {
-    let few = parts / 2;
-    let more = parts - few;
+    if !at_once {
+        let answers = ask_parts(
+            rt, alloc, catalogue, front, front_asks, workers, idle, chooser, gate,
+        );
+        let others = ask_parts(
+            rt, alloc, catalogue, back, back_asks, workers, idle, chooser, gate,
+        );
+        return (answers, others);
+    }
+    let parts = TwoParts::new();
     join_mut(
         rt,
         &mut || -> Answers
@@ -126,9 +142,11 @@ fn ask_both<R: Threads + Wait + Sync, C: Chooser + Sync, G: Gate + Sync>(
             ensures taken { AllHaveTaken catalogue.entry.now front.entry.now front.exit.now front_asks.entry.now }
             ensures answers { IfOk result (λ answers. AllReplied (settings_of catalogue.entry.now).schema front.entry.now front.exit.now front_asks.entry.now answers.items) }
         {
-            ask_parts(
-                rt, alloc, catalogue, front, front_asks, few, workers, chooser, gate,
-            )
+            let answers = ask_parts(
+                rt, alloc, catalogue, front, front_asks, workers, idle, chooser, gate,
+            );
+            idle.end(&parts);
+            answers
         },
         &mut || -> Answers
             requires sync { IsSync R.row × IsSync C.row × IsSync G.row }
@@ -138,32 +156,35 @@ fn ask_both<R: Threads + Wait + Sync, C: Chooser + Sync, G: Gate + Sync>(
             ensures taken { AllHaveTaken catalogue.entry.now back.entry.now back.exit.now back_asks.entry.now }
             ensures answers { IfOk result (λ answers. AllReplied (settings_of catalogue.entry.now).schema back.entry.now back.exit.now back_asks.entry.now answers.items) }
         {
-            ask_parts(
-                rt, alloc, catalogue, back, back_asks, more, workers, chooser, gate,
-            )
+            let answers = ask_parts(
+                rt, alloc, catalogue, back, back_asks, workers, idle, chooser, gate,
+            );
+            idle.end(&parts);
+            answers
         },
     )
 }
 
-// How many sessions are in front: the first that asks, and those after it while at most half of all asks are
-// in front. Where two sessions ask, one of them is behind.
-pub(crate) fn middle(asks: &[AskList]) -> usize
-    ensures { result ≤ length asks.now }
+// How many sessions are in front: the first that asks, and those after it while at most so many asks are in front.
+// Where two sessions ask, one of them is behind.
+pub(crate) fn middle(asks: &[AskList], most: usize) -> usize
+    requires { 2 ≤ length asks.now }
+    ensures { (1 ≤ result) × (result < length asks.now) }
 {
-    let half = asks_of(asks) / 2;
+    let last = asks.len() - 1;
     let mut taken = 0_usize;
     for (place, list) in asks.iter().enumerate() {
         let with = taken.saturating_add(list.len());
-        if taken > 0 && with > half {
-            return place;
+        if taken > 0 && with > most {
+            return place.max(1).min(last);
         }
         taken = with;
     }
-    asks.len()
+    last
 }
 
 // How many asks there are.
-fn asks_of(asks: &[AskList]) -> usize {
+pub(crate) fn asks_of(asks: &[AskList]) -> usize {
     let mut all = 0_usize;
     for list in asks {
         all = all.saturating_add(list.len());

@@ -1,6 +1,7 @@
 //! How sessions are parted, and workers shared among queries: no clause says it.
 use crate::AskList;
-use crate::sessions::{middle, share_of};
+use crate::idle::{IdleWorkers, TwoParts};
+use crate::sessions::{asks_of, middle, share_of};
 use crate::tests::{read_asks, schema};
 use std::alloc::Global;
 use std::test::Fail;
@@ -33,11 +34,19 @@ const PARTED: [(&[u8], usize); 8] = [
     (b"1150", 2),
 ];
 
+// How many are in front of the middle.
+fn half(lists: &[AskList]) -> Option<usize> {
+    if lists.len() < 2 {
+        return None;
+    }
+    Some(middle(lists, asks_of(lists) / 2))
+}
+
 #[test]
 fn parts_of_sessions(rt: HostRuntime) -> Result<(), Fail> {
     for (counts, front) in PARTED {
         let lists = asking(rt.alloc(), counts).ok_or("no asks")?;
-        assert_eq!(rt; middle(lists.as_slice()), front);
+        assert_eq!(rt; half(lists.as_slice()), Some(front));
     }
     Ok(())
 }
@@ -50,4 +59,16 @@ fn workers_of_queries(rt: HostRuntime) -> Result<(), Fail> {
     assert_eq!(rt; share_of(7, 0), 7);
     assert_eq!(rt; share_of(7, usize::MAX), 1);
     Ok(())
+}
+
+#[test]
+fn idle_workers(rt: HostRuntime) {
+    let idle = IdleWorkers::new(1);
+    assert!(rt; idle.take());
+    assert!(rt; !idle.take());
+    let parts = TwoParts::new();
+    idle.end(&parts);
+    idle.end(&parts);
+    assert!(rt; idle.take());
+    assert!(rt; !idle.take());
 }
