@@ -1,5 +1,5 @@
 -- The command that each form stands for.
-use Rattle.std.specs.Prelude.{ℕ, List}
+use Rattle.std.specs.Prelude.{ℕ, Bool, true, false, List}
 use Rattle.uni_table.specs.declared.command.AudienceText.{AudienceText}
 use Rattle.uni_table.specs.declared.command.AudienceText.TheVariants.{Public as everybody, Only as owners}
 use Rattle.uni_table.specs.declared.command.Command.{Command}
@@ -19,3 +19,10 @@ command_of (Public key number target) = edge_of key number target everybody
 command_of (Only key number target) = edge_of key number target owners
 command_of (Cut key number target) = command.Cut number key target
 command_of (Whole kept) = kept.value
+
+-- whether a command puts an edge
+abbrev pub puts_edge : Command → Bool
+puts_edge (command.Entity vertical id rank) = false
+puts_edge (command.Gone id) = false
+puts_edge (command.Edge number key target audience until) = true
+puts_edge (command.Cut number key target) = false

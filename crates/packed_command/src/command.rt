@@ -1,5 +1,5 @@
 ghost use Rattle.std.specs.Prelude.{◌≡◌, IfOk, IfSome};
-ghost use Rattle.packed_command.specs.Packed.{command_of, edge_of};
+ghost use Rattle.packed_command.specs.Packed.{command_of, edge_of, puts_edge};
 
 use crate::key::ShortKey;
 use std::alloc::{AllocError, Global};
@@ -62,6 +62,17 @@ impl PackedCommand {
             None => Form::Whole(Box::new(alloc, *command)?),
         };
         Ok(PackedCommand { form })
+    }
+
+    /// Whether it puts an edge.
+    pub fn puts_edge(&self) -> bool
+        ensures { result ≡ puts_edge self.now }
+    {
+        match &self.form {
+            Form::Public { .. } | Form::Only { .. } => true,
+            Form::Whole(command) => matches!(**command, Command::Edge { .. }),
+            _ => false,
+        }
     }
 
     /// The command as it was.

@@ -34,12 +34,26 @@ pub fn feed_round<R: Wait, G: Gate>(
     ensures taken { HasFed catalogue.now (length items.now) feeder.old feeder.new }
     ensures fed { IfOk result (λ answers. IsFed (terms_of catalogue.now) (feed_of feeder.old) items.now answers (feed_of feeder.new)) }
 {
+    feeder.reserve_edges(edges_in(items));
     let mut answers = AnswerList::new(alloc);
     for item in items.as_slice() {
         let answer = feed_line(rt, catalogue, feeder, item, gate);
         add_answer(&mut answers, answer)?;
     }
     Ok(answers)
+}
+
+// How many edges changes put.
+fn edges_in(round: &ItemList) -> usize {
+    let mut edges = 0_usize;
+    for item in round.as_slice() {
+        if let Item::Change(_, command) = item
+            && command.puts_edge()
+        {
+            edges = edges.saturating_add(1);
+        }
+    }
+    edges
 }
 
 // Takes a line, if it is one of the feed.

@@ -231,6 +231,40 @@ module _ (old new : Rows) (kept : IsRows old) where
     ids = longer-refl (keys_of old.ids.entries);
   }
 
+module _ (old more : Rows) (kept : IsRows old) (is : more.edges.entries ≡ old.edges.entries) where
+  abbrev wide : Rows
+  wide = record old { edges = more.edges }
+
+  last-wide : (side : Side) (q : ℕ) → last_at side wide q ≡ last_at side old q
+  last-wide Target q = refl
+  last-wide From q = refl
+
+  -- nor does more room for edges
+  pub quiet-wide : IsQuiet old wide
+  quiet-wide = record {
+    kept = record {
+      known = subst (AtEach (λ i e. IsKnown (length old.sources.entries) (length old.ids.entries) e)) (sym is) kept.known;
+      chains = λ side. subst (λ es. AtEach (λ i e. next_at side e.1 ≡ last_no (has_at side (no_at side e.0)) (take i (keys_of es))) es) (sym is) (kept.chains side);
+      lasts = λ side q. last-wide side q ∙ kept.lasts side q ∙ ap (λ (es : List (EdgeNo × Slot)). last_no (has_at side q) (keys_of es)) (sym is);
+      ids = kept.ids;
+      sources = kept.sources;
+      edges = subst (λ es. IsDistinct (eq_by_cmp edge_cmp) (keys_of (map (slot_named (keys_of old.sources.entries) (keys_of old.ids.entries)) es))) (sym is) kept.edges;
+      few_ids = kept.few_ids;
+      few_sources = kept.few_sources;
+      few_edges = subst (λ (es : List (EdgeNo × Slot)). length es < 2 ^ 32) (sym is) kept.few_edges;
+      entity_count = kept.entity_count;
+      edge_count = kept.edge_count ∙ ap (count_of (λ slot. is_live slot.state)) (sym is);
+      ended = subst (AtEach (λ i e. is_live e.1.state ≡ true → 0 < e.1.end → contains end_cmp old.ends (e.1.end, i + 1) ≡ true)) (sym is) kept.ended;
+      touched_ids = kept.touched_ids;
+      touched_edges = subst (λ es. AreTouched (λ slot. is_same slot.before) es old.touched_edges.items old.touched_edges.cap) (sym is) kept.touched_edges;
+    };
+    same = λ i. record { entities = (contents_of old).entities; edges = ordered edge_cmp (map (slot_named (keys_of old.sources.entries) (keys_of old.ids.entries)) (is i)) };
+    published = λ i. record { entities = (published_of old).entities; edges = ordered edge_cmp (map (slot_before (keys_of old.sources.entries) (keys_of old.ids.entries)) (is i)) };
+    edges = is;
+    sources = longer-refl (keys_of old.sources.entries);
+    ids = longer-refl (keys_of old.ids.entries);
+  }
+
 -- a row stands for an edge exactly where that is not gone
 pub row-lives : (sources : List Source) (state : SlotState) (end : ℕ) → is_some (row_of sources state end) ≡ is_live state
 row-lives sources Gone end = refl

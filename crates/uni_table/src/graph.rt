@@ -111,6 +111,13 @@ impl Graph {
         self.rows.count_edges()
     }
 
+    /// Makes room for so many edges more. Where there is no memory for it, they make it as they come.
+    pub fn reserve_edges(&mut self, edges: usize)
+        ensures { self.new ≡ self.old }
+    {
+        self.rows.reserve_edges(edges);
+    }
+
     /// Puts an entity, or another row in place of the one that it has.
     pub fn put_entity(&mut self, id: EntityId, row: EntityRow) -> Result<(), AllocError>
         ensures ok { OnOk result (self.new ≡ record self.old { contents = with_entity self.old.contents id row }) }

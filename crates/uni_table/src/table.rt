@@ -55,6 +55,14 @@ impl Table {
         }
     }
 
+    /// Makes room for so many edges more, so that none of these that is put has to make it. Where there is no memory
+    /// for it, each makes it as it comes.
+    pub fn reserve_edges(&mut self, edges: usize)
+        ensures { self.new ≡ self.old }
+    {
+        self.graph.reserve_edges(edges);
+    }
+
     /// Takes a command, or says why not. After a refusal the table is as before. An entity that goes
     /// costs its edges, and any other command a constant number of look-ups; a forward edge that is new
     /// costs those of its type and key besides.

@@ -28,6 +28,14 @@ impl Feeder {
     ghost use Rattle.version_catalog.specs.Seats.{feeder_table, feeder_batch, feeder_journal, feeder_turns, feeder_sessions, IsFeederOf, KeepsSeat};
     ghost use Rattle.version_catalog.specs.declared.catalogue.Catalogue.{Catalogue};
 
+    /// Makes room in its table for so many edges more. Where there is no memory for it, each that is put makes it as
+    /// it comes.
+    pub fn reserve_edges(&mut self, edges: usize)
+        ensures { self.new ≡ self.old }
+    {
+        self.table.reserve_edges(edges);
+    }
+
     /// Takes a command as its table does, which then joins the batch. After a refusal table and batch are
     /// as before.
     pub fn put(&mut self, command: &Command) -> Result<(), FeedRefusal>

@@ -108,6 +108,14 @@ impl Rows {
         }
     }
 
+    /// Makes room for so many edges more. Where there is no memory for it, they make it as they come.
+    pub fn reserve_edges(&mut self, edges: usize)
+        requires { IsRows self.old }
+        ensures { IsQuiet self.old self.new }
+    {
+        let _is_made = self.edges.reserve(edges);
+    }
+
     // The number of a type and key.
     fn source_no(&mut self, type_no: u16, key: Key) -> Result<u32, AllocError>
         requires { IsRows self.old }
