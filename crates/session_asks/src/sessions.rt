@@ -6,12 +6,13 @@ ghost use Rattle.version_catalog.specs.Seats.{settings_of};
 
 use crate::idle::{IdleWorkers, TwoParts};
 use crate::{AskList, ask_session};
+use fork_join::fork_both;
 use rack_aggregate::Gate;
 use replica_pick::Chooser;
 use reply_text::AnswerList;
 use std::alloc::{AllocError, Global};
 use std::sync::Wait;
-use std::thread::{Threads, join_mut};
+use std::thread::Threads;
 use version_catalog::{Catalogue, Session};
 
 // The answers of sessions, a list for each.
@@ -132,7 +133,7 @@ fn ask_both<R: Threads + Wait + Sync, C: Chooser + Sync, G: Gate + Sync>(
         return (answers, others);
     }
     let parts = TwoParts::new();
-    join_mut(
+    fork_both(
         rt,
         &mut || -> Answers
             requires sync { IsSync R.row × IsSync C.row × IsSync G.row }

@@ -7,8 +7,8 @@ decreases-ask_parts g l = 3 * length l.asks.now
 abbrev pub decreases-ask_both : goal.decreases-ask_both
 decreases-ask_both g l = 3 * (length l.front_asks.now + length l.back_asks.now) - 1
 
-abbrev pub decreases-ask_both-join_mut+arg2 : goal.decreases-ask_both-join_mut+arg2
-decreases-ask_both-join_mut+arg2 g l = 3 * length l.front_asks.now + 1
+abbrev pub decreases-ask_both-fork_both+arg2 : goal.decreases-ask_both-fork_both+arg2
+decreases-ask_both-fork_both+arg2 g l = 3 * length l.front_asks.now + 1
 
-abbrev pub decreases-ask_both-join_mut+arg3 : goal.decreases-ask_both-join_mut+arg3
-decreases-ask_both-join_mut+arg3 g l = 3 * length l.back_asks.now + 1
+abbrev pub decreases-ask_both-fork_both+arg3 : goal.decreases-ask_both-fork_both+arg3
+decreases-ask_both-fork_both+arg3 g l = 3 * length l.back_asks.now + 1
