@@ -1,6 +1,7 @@
 ghost use Rattle.std.specs.Prelude.{◌≡◌, ◌<◌, ◌≤◌, ◌+◌, ◌^◌, Some, is_some, false, length, take, drop, OnOk, OnErr, IfOk};
 ghost use Rattle.std.specs.List.{slice_get};
 ghost use Rattle.std.specs.FinMap as finite;
+ghost use Rattle.layer_base.specs.Layers.{put_all};
 ghost use Rattle.std.specs.Option.{option_map};
 ghost use Rattle.forward_data.specs.Combined.{AreChanged, is_among};
 ghost use Rattle.forward_data.specs.Records.{record_key, records_over, records_of, under};
@@ -55,6 +56,15 @@ impl ForwardDelta {
         ensures err { OnErr result (self.new ≡ self.old) }
     {
         self.log.push((RecordKey { type_no, id }, items))?;
+        Ok(())
+    }
+
+    /// Adds the records of another one, which come later.
+    pub fn append(&mut self, later: ForwardDelta) -> Result<(), AllocError>
+        ensures { OnOk result (self.new ≡ put_all (finite.entries later) self.old) }
+    {
+        let ForwardDelta { mut log } = later;
+        self.log.append(&mut log)?;
         Ok(())
     }
 }

@@ -36,6 +36,32 @@ module _ {K X : Type 0} {R : K → K → Ordering} (o : IsTotalOrder R) where
           turned true = refl
           turned false = refl
 
+-- values of one list, and then those of another that stand before it
+pub put_all-append : {K X : Type 0} {R : K → K → Ordering} (xs ys : List (K × X)) (m : map.FinMap R X) → put_all (xs ++ ys) m ≡ put_all xs (put_all ys m)
+put_all-append [] ys m = refl
+put_all-append (x ∷ xs) ys m = ap (λ n. map.insert n x.0 x.1) (put_all-append xs ys m)
+
+from_entries-all : {K X : Type 0} {R : K → K → Ordering} (es : List (K × X)) → map.from_entries {R = R} es ≡ put_all es map.empty
+from_entries-all [] = refl
+from_entries-all (e ∷ es) = ap (λ n. map.insert n e.0 e.1) (from_entries-all es)
+
+module _ {K X : Type 0} {R : K → K → Ordering} (o : IsTotalOrder R) (apart : TellsApart R) where
+  -- to add what a log says of each key is to add its words, one after another
+  pub put_all-log : (log : List (K × X)) (m : map.FinMap R X) → put_all (map.entries (from_log {R = R} log)) m ≡ put_all (reverse log) m
+  put_all-log log m = map.same_map o apart (put_all (map.entries (from_log {R = R} log)) m) (put_all (reverse log) m) (λ q.
+      get-put_all o (map.entries (from_log {R = R} log)) m q
+      ∙ ap (λ found. either found (map.get m q)) (sym (map.get-entries (from_log {R = R} log) q) ∙ map.get-from_entries o (reverse log) q)
+      ∙ sym (get-put_all o (reverse log) m q))
+
+  -- what a log says, and then another one
+  pub from_log-append : (xs ys : List (K × X)) → from_log {R = R} (xs ++ ys) ≡ put_all (map.entries (from_log {R = R} ys)) (from_log xs)
+  from_log-append xs ys =
+      ap (map.from_entries {R = R}) (reverse-append xs ys)
+      ∙ from_entries-all (reverse ys ++ reverse xs)
+      ∙ put_all-append (reverse ys) (reverse xs) map.empty
+      ∙ ap (put_all (reverse ys)) (sym (from_entries-all (reverse xs)))
+      ∙ sym (put_all-log ys (from_log xs))
+
 pub stack_over-append : {K X : Type 0} {R : K → K → Ordering} (table : map.FinMap R X) (older newer : List (Changes R X)) → stack_over table (older ++ newer) ≡ stack_over (stack_over table older) newer
 stack_over-append table [] newer = refl
 stack_over-append table (layer ∷ older) newer = stack_over-append (layer_over table layer) older newer

@@ -24,7 +24,7 @@ use Rattle.layer_base.specs.Layers.{from_log, put_all, layer_over, stack_over, s
 use Rattle.layer_base.proofs.Among.{among-append, among_noted, among_first, is_done, done_further, done_skipped, done_copied, done_whole, or_false, or_nothing, or_assoc}
 use Rattle.layer_base.specs.Among.{bare}
 use Rattle.layer_base.proofs.Rising.{log_sorted}
-use Rattle.layer_base.proofs.Tables.{from_log-push, get-put_all, get-layer_over}
+use Rattle.layer_base.proofs.Tables.{from_log-push, get-put_all, get-layer_over, put_all-append}
 use Rattle.layer_stack.specs.declared.place.Place.{Place}
 use Rattle.layer_stack.specs.declared.place.TermKey.{TermKey}
 use Rattle.layer_stack.specs.declared.term_spans.TermSpans.{TermSpans}
@@ -42,10 +42,6 @@ use Rattle.layer_stack.proofs.Directories.{found_by}
 
 -- ---- the postings of a term, put one after another
 
-put_all-append : {K X : Type 0} {R : K → K → Ordering} (xs ys : List (K × X)) (m : finite.FinMap R X) → put_all (xs ++ ys) m ≡ put_all xs (put_all ys m)
-put_all-append [] ys m = refl
-put_all-append (x ∷ xs) ys m = ap (λ n. finite.insert n x.0 x.1) (put_all-append xs ys m)
-
 abbrev pub put_row : TermKey → Posting → Place × Audience
 put_row t p = (place_of t p.key, p.audience)
 
@@ -53,7 +49,7 @@ pub list_deletes : (t : TermKey) (ps : List Posting) (c : PostingChanges) → (p
 list_deletes t [] c = refl
 list_deletes t (p ∷ ps) c = list_deletes t ps (putting c (place_of t p.key) p.audience)
 
-list_puts : (t : TermKey) (ps : List Posting) (c : PostingChanges) → (putting_list t ps c).puts ≡ put_all (reverse (map (put_row t) ps)) c.puts
+pub list_puts : (t : TermKey) (ps : List Posting) (c : PostingChanges) → (putting_list t ps c).puts ≡ put_all (reverse (map (put_row t) ps)) c.puts
 list_puts t [] c = refl
 list_puts t (p ∷ ps) c =
     list_puts t ps (putting c (place_of t p.key) p.audience)

@@ -10,6 +10,7 @@ pub mod TermWords
 pub mod Terms
 pub mod Under
 pub mod Told
+mod Appended
 pub mod Settled
 pub mod Combined
 pub mod Based

@@ -1,12 +1,12 @@
 -- Tables of postings, and what changes them. A table has at most one posting at each place, and
 -- is in the order of places.
-use Rattle.std.specs.Prelude.{ℕ, ◌+◌, Bool, List, [], ◌∷◌, map, filter}
+use Rattle.std.specs.Prelude.{ℕ, ◌+◌, Bool, List, [], ◌∷◌, map, filter, reverse}
 use Rattle.std.specs.Ordering.{eq_by_cmp}
 use Rattle.std.specs.FinMap as finite
 use Rattle.uni_base.specs.declared.edge.Audience.{Audience}
 use Rattle.uni_base.specs.declared.entity.DocKey.{DocKey}
 use Rattle.posting_lists.specs.declared.posting.Posting.{Posting}
-use Rattle.layer_base.specs.Layers.{Changes}
+use Rattle.layer_base.specs.Layers.{Changes, put_all}
 use Rattle.layer_stack.specs.declared.place.TermKey.{TermKey}
 use Rattle.layer_stack.specs.declared.place.Place.{Place}
 use Rattle.layer_stack.specs.Places.{term_cmp, place_cmp}
@@ -40,6 +40,17 @@ deleting changes place = record { deletes = finite.insert changes.deletes place 
 -- with one more posting put
 abbrev pub putting : PostingChanges → Place → Audience → PostingChanges
 putting changes place audience = record { deletes = changes.deletes; puts = finite.insert changes.puts place audience }
+
+-- changes, and later ones after them
+abbrev pub joined : PostingChanges → PostingChanges → PostingChanges
+joined old later = record { deletes = put_all (finite.entries later.deletes) old.deletes; puts = put_all (finite.entries later.puts) old.puts }
+
+-- with rows deleted, one after another, and with rows put
+abbrev pub deleting_rows : List (Place × Unit {0}) → PostingChanges → PostingChanges
+deleting_rows rows changes = record { deletes = put_all (reverse rows) changes.deletes; puts = changes.puts }
+
+abbrev pub putting_rows : List (Place × Audience) → PostingChanges → PostingChanges
+putting_rows rows changes = record { deletes = changes.deletes; puts = put_all (reverse rows) changes.puts }
 
 -- with postings put under a term, one after another
 abbrev pub putting_list : TermKey → List Posting → PostingChanges → PostingChanges

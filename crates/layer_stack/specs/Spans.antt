@@ -42,8 +42,11 @@ told (Some s) xs = spanned s xs
 abbrev pub put_rows : List (TermKey × Span) → List Posting → List (Place × Audience)
 put_rows = tagged (λ term p. (place_of term p.key, p.audience))
 
+abbrev pub delete_row : TermKey → DocKey → Place × Unit {0}
+delete_row term key = (place_of term key, tt)
+
 abbrev pub delete_rows : List (TermKey × Span) → List DocKey → List (Place × Unit {0})
-delete_rows = tagged (λ term k. (place_of term k, tt))
+delete_rows = tagged delete_row
 
 -- rows in the order of places, told by spans over as many items
 pub record AreLaid {V : Type 0} (rows : List (Place × V)) (spans : List (TermKey × Span)) (items : ℕ) : Type 0 where

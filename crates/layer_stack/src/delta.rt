@@ -1,6 +1,7 @@
-ghost use Rattle.std.specs.Prelude.{◌≡◌, ◌<◌, ◌≤◌, IfOk, OnOk, OnErr, length};
-ghost use Rattle.layer_stack.specs.Postings.{no_changes, deleting, putting, putting_list, place_of};
-ghost use Rattle.layer_stack.specs.Spans.{spanned};
+ghost use Rattle.std.specs.Prelude.{◌≡◌, ◌<◌, ◌≤◌, IfOk, OnOk, OnErr, length, map};
+ghost use Rattle.layer_stack.specs.Postings.{no_changes, deleting, deleting_rows, joined, putting, putting_list, putting_rows, place_of};
+ghost use Rattle.layer_stack.specs.Runs.{AreWithin};
+ghost use Rattle.layer_stack.specs.Spans.{spanned, delete_row, delete_rows, put_rows};
 
 use crate::TermKey;
 use crate::directory::Span;
@@ -92,6 +93,63 @@ impl Delta {
         }
         self.postings.push(posting)?;
         note_row(&mut self.puts, &term, at)
+    }
+
+    /// Adds the changes of another one, which come later, run by run. A delta that finds no memory has some of
+    /// them.
+    pub fn append(&mut self, later: &Delta) -> Result<(), AllocError>
+        ensures { OnOk result (self.new ≡ joined self.old later.now) }
+    {
+        self.append_deletes(&later.deletes, &later.deleted)?;
+        self.append_puts(&later.puts, &later.postings)
+    }
+
+    // Deletes the keys that runs tell.
+    fn append_deletes(
+        &mut self,
+        runs: &[(ShortTerm, Span)],
+        keys: &[DocKey],
+    ) -> Result<(), AllocError>
+        requires { AreWithin (length keys.now) runs.now }
+        ensures { OnOk result (self.new ≡ deleting_rows (delete_rows runs.now keys.now) self.old) }
+    {
+        for at in 0..runs.len() {
+            let (term, span) = &runs[at];
+            self.delete_run(term, keys, *span)?;
+        }
+        Ok(())
+    }
+
+    // Puts the postings that runs tell.
+    fn append_puts(
+        &mut self,
+        runs: &[(ShortTerm, Span)],
+        postings: &PostingColumns,
+    ) -> Result<(), AllocError>
+        requires { AreWithin (length postings.now) runs.now }
+        ensures { OnOk result (self.new ≡ putting_rows (put_rows runs.now postings.now) self.old) }
+    {
+        for at in 0..runs.len() {
+            let (term, span) = &runs[at];
+            self.put_run(term, postings, *span)?;
+        }
+        Ok(())
+    }
+
+    // Deletes the keys of a span under a term, as a run of their own.
+    fn delete_run(
+        &mut self,
+        term: &ShortTerm,
+        keys: &[DocKey],
+        span: Span,
+    ) -> Result<(), AllocError>
+        requires { (span.from < span.to) × (span.to ≤ length keys.now) }
+        ensures { OnOk result (self.new ≡ deleting_rows (map (delete_row term.now) (spanned span keys.now)) self.old) }
+    {
+        let from = self.deleted.len();
+        self.deleted.extend_from_slice(&keys[span.from..span.to])?;
+        let to = self.deleted.len();
+        add_run(&mut self.deletes, term, Span { from, to })
     }
 
     // Puts the postings of a span of columns under a term, as a run of their own.
