@@ -1,6 +1,6 @@
 use std::thread::{Threads, join_mut};
 
-/// Calls both at the same time, each in a thread of its own, and waits for them. A thread is mostly started on the
+/// Calls both at the same time, each in a thread of its own, and waits for them. A thread is often started on the
 /// processor of the one that starts it, and moves to an idle one only when a scheduler next looks for such: where
 /// the caller worked too, it would share its processor with what it started. Where a thread can't be started, the
 /// caller does its work.
