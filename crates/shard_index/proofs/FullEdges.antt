@@ -1,9 +1,9 @@
 -- All edges of a table, read type by type and key by key, are exactly the changes of what holds none.
-use Rattle.std.proofs.Common.{arith, ◌≡◌, inl, ⊎_elim, ◌==◌, ◌&&◌, ℕ, zero, suc, ◌+◌, ◌<◌, ◌++◌, Bool, true, false, if◌then◌else◌, cond, List, [], ◌∷◌, map, filter, length, take, get_or, Option, None, Some, refl, sym, ◌∙◌, ap, subst, append_assoc, append-nil, is_some}
+use Rattle.std.proofs.Common.{arith, ◌≡◌, inl, inr, ⊎_elim, replicate, ◌≤◌, ◌⊎◌, ◌==◌, ◌&&◌, ℕ, zero, suc, ◌+◌, ◌<◌, ◌++◌, Bool, true, false, if◌then◌else◌, cond, List, [], ◌∷◌, map, filter, length, get_or, Option, None, Some, refl, sym, ◌∙◌, ap, subst, append_assoc, append-nil, is_some}
 use Rattle.std.proofs.lemmas.Bool.{and_parts}
 use Rattle.std.proofs.lemmas.Bool.Decides.{nat_tests}
-use Rattle.std.proofs.lemmas.List.{nil_from_length, take_all, take_more}
-use Rattle.std.proofs.lemmas.List.Elements.{All-contains, All-contains_itself, All-weaker, Contains-append_cases, Contains-append_left, Contains-append_right, Contains-push_cases}
+use Rattle.std.proofs.lemmas.List.{nil_from_length}
+use Rattle.std.proofs.lemmas.List.Elements.{All-contains, All-contains_itself, All-weaker, Contains-append_cases, Contains-append_left, Contains-append_right}
 use Rattle.std.proofs.lemmas.List.Sorted.{Contains-permutation, IsPermutation-sym}
 use Rattle.std.proofs.lemmas.List.Sums.{AllPass-from_list_all}
 use Rattle.std.proofs.lemmas.Map.Keys.{IsDistinct-from_sorted}
@@ -40,11 +40,13 @@ use Rattle.layer_stack.specs.Postings.{PostingChanges, place_of, putting}
 use Rattle.forward_data.specs.Records.{record_key}
 use Rattle.shard_index.specs.declared.batch.notes.ShardNotes.{ShardNotes}
 use Rattle.shard_index.specs.ChangedRows.{changed_key, posting_for, same_audiences, turning, with_change}
-use Rattle.shard_index.specs.FullEdges.{IsTargetOf, NotesAll, change_to}
+use Rattle.shard_index.specs.Batches.{all_shards}
+use Rattle.shard_index.specs.FullEdges.{IsTargetOf, NotesAll, NotesSources, change_to}
 use Rattle.shard_index.specs.Laws.{edge_to}
-use Rattle.shard_index.specs.Notes.{AreNoted, NotesEdges}
-use Rattle.shard_index.proofs.BatchShards.{declared_there}
+use Rattle.shard_index.specs.Notes.{AreNoted, NotesEdges, no_notes, with_all}
+use Rattle.shard_index.proofs.BatchShards.{declared_there, none_noted}
 use Rattle.shard_index.proofs.LoggedMaps.{equal_of}
+use Rattle.shard_index.proofs.NotesJoined.{all_joined}
 
 -- ---- a table without entities holds nothing
 
@@ -208,42 +210,50 @@ module _ (schema : Declarations) (limits : Limits) (table : Contents) (kept : Is
 
 -- ---- the edges of one type and key after the other
 
--- the edges of the first types and keys are noted, as changes of what holds none
-pub record NotesSources (table : TableState) (sources : List Source) (count : ℕ) (old new : List ShardNotes) : Type 0 where
-  pub edges : List EdgeChange
-  pub noted : NotesEdges table edges old new
-  pub sound : (c : EdgeChange) → Contains edges c → IsEdgeChange empty table.contents c
-  pub whole : (c : EdgeChange) → IsEdgeChange empty table.contents c → Contains (take count sources) (source_from c.edge) → Contains edges c
-
-pub none_read : (table : TableState) (sources : List Source) (notes : List ShardNotes) → NotesSources table sources 0 notes notes
-none_read table sources notes = record {
+pub none_read : (table : TableState) (sources : List Source) (from : ℕ) (notes : List ShardNotes) → NotesSources table sources from from notes notes
+none_read table sources from notes = record {
   edges = [];
   noted = λ removed placed edges so_far. subst (λ es. AreNoted table removed placed es notes) (sym (append-nil edges)) so_far;
   sound = λ c among. absurd (omega (arith, among.1));
-  whole = λ c known among. absurd (omega (arith, among.1));
+  whole = λ c i known low high at. absurd (omega (arith, low, high));
 }
 
 module _ (table : TableState) (kept : IsKept table.schema table.limits table.contents) (sources : List Source) where
-  pub one_read : (count : ℕ) (old mid new : List ShardNotes) (source : Source) (targets : List Target) → count < length sources → source ≡ get_or sources count source → AreTargets table.contents source targets
-      → NotesSources table sources count old mid → NotesEdges table (map (change_to table.contents source) targets) mid new → NotesSources table sources (count + 1) old new
-  one_read count old mid new source targets below is are so_far next =
+  pub one_read : (from to : ℕ) (old mid new : List ShardNotes) (source : Source) (targets : List Target) → to < length sources → source ≡ get_or sources to source → AreTargets table.contents source targets
+      → NotesSources table sources from to old mid → NotesEdges table (map (change_to table.contents source) targets) mid new → NotesSources table sources from (to + 1) old new
+  one_read from to old mid new source targets below is are so_far next =
       let more = map (change_to table.contents source) targets in
       record {
         edges = so_far.edges ++ more;
         noted = λ removed placed edges before.
             subst (λ es. AreNoted table removed placed es new) (append_assoc edges so_far.edges more) (next removed placed (edges ++ so_far.edges) (so_far.noted removed placed edges before));
         sound = λ c among. ⊎_elim (so_far.sound c) (sound table.schema table.limits table.contents kept source targets are c) (Contains-append_cases so_far.edges more c among);
-        whole = λ c known among.
-            ⊎_elim (λ earlier. Contains-append_left so_far.edges more c (so_far.whole c known earlier))
-            (λ here. Contains-append_right so_far.edges more c (whole table.schema table.limits table.contents kept source targets are c known here))
-            (Contains-push_cases (take count sources) source (source_from c.edge) (subst (λ xs. Contains xs (source_from c.edge)) (take_more sources count source below ∙ ap (λ s. take count sources ++ s ∷ []) (sym is)) among));
+        whole = λ c i known low high at.
+            ⊎_elim (λ earlier. Contains-append_left so_far.edges more c (so_far.whole c i known low earlier at))
+            (λ here. Contains-append_right so_far.edges more c (whole table.schema table.limits table.contents kept source targets are c known (is ∙ same_get sources to source (source_from c.edge) below ∙ ap (λ n. get_or sources n (source_from c.edge)) (sym here) ∙ at)))
+            (below_or_at i to high);
       }
+    where
+      below_or_at : (i n : ℕ) → i < n + 1 → (i < n) ⊎ (i ≡ n)
+      below_or_at i zero high = inr (omega (arith, high))
+      below_or_at zero (suc n) high = inl (omega arith)
+      below_or_at (suc i) (suc n) high = ⊎_elim (λ (low : i < n). inl (omega (arith, low))) (λ same. inr (ap suc same)) (below_or_at i n (omega (arith, high)))
 
-  pub all_read : (old new : List ShardNotes) (state : SourcesState) → state.sources ≡ sources → AreSources (length table.schema.types) table.contents state → NotesSources table sources (length sources) old new
+      same_get : (xs : List Source) (n : ℕ) (d e : Source) → n < length xs → get_or xs n d ≡ get_or xs n e
+      same_get [] n d e low = absurd (omega (arith, low))
+      same_get (x ∷ xs) zero d e low = refl
+      same_get (x ∷ xs) (suc n) d e low = same_get xs n d e (omega (arith, low))
+
+  pub all_read : (old new : List ShardNotes) (state : SourcesState) → state.sources ≡ sources → AreSources (length table.schema.types) table.contents state → NotesSources table sources 0 (length sources) old new
       → NotesAll table old new
   all_read old new state same are read = (
     read.edges,
-    (λ c. (read.sound c, (λ known. read.whole c known (subst (λ xs. Contains xs (source_from c.edge)) (same ∙ sym (take_all (length sources) sources (omega arith))) (are.whole c.edge (stands c known).0 (stands c known).1))))),
+    (λ c. (
+      read.sound c,
+      (λ known.
+          let among = subst (λ xs. Contains xs (source_from c.edge)) same (are.whole c.edge (stands c known).0 (stands c known).1) in
+          read.whole c among.0 known (omega arith) among.1 among.2),
+    )),
     read.noted,
   )
     where
@@ -256,6 +266,26 @@ module _ (table : TableState) (kept : IsKept table.schema table.limits table.con
               (λ moved. let some : IsSome no_row = subst IsSome (known.1 ∙ at) moved.0 in cc)
               known.2)
           by (Some row) at = (ap (λ o. is_some o) at, declared_there table.schema table.limits table.contents kept c.edge row at)
+
+  -- those up to a place, and those from there on that were noted apart
+  pub parts_read : (from mid to : ℕ) (old new later : List ShardNotes) → mid ≤ to
+      → NotesSources table sources from mid old new → NotesSources table sources mid to (replicate (length (all_shards table.schema)) no_notes) later → NotesSources table sources from to old (with_all new later)
+  parts_read from mid to old new later fits so_far next = record {
+    edges = so_far.edges ++ next.edges;
+    noted = λ removed placed edges before.
+        subst (λ es. AreNoted table removed placed es (with_all new later)) (append_assoc edges so_far.edges next.edges)
+        (all_joined table removed placed (edges ++ so_far.edges) next.edges (all_shards table.schema) new later (so_far.noted removed placed edges before) (next.noted [] [] [] (none_noted table)));
+    sound = λ c among. ⊎_elim (so_far.sound c) (next.sound c) (Contains-append_cases so_far.edges next.edges c among);
+    whole = λ c i known low high at.
+        ⊎_elim (λ (earlier : i < mid). Contains-append_left so_far.edges next.edges c (so_far.whole c i known low earlier at))
+        (λ (onward : mid ≤ i). Contains-append_right so_far.edges next.edges c (next.whole c i known onward high at))
+        (either_side i mid);
+  }
+    where
+      either_side : (i n : ℕ) → (i < n) ⊎ (n ≤ i)
+      either_side i zero = inr (omega arith)
+      either_side zero (suc n) = inl (omega arith)
+      either_side (suc i) (suc n) = ⊎_elim (λ (low : i < n). inl (omega (arith, low))) (λ (high : n ≤ i). inr (omega (arith, high))) (either_side i n)
 
 -- ---- what is noted of one edge
 

@@ -1,4 +1,5 @@
 pub mod Among
+pub mod BatchRuns
 pub mod BatchShards
 pub mod ChangedEntities
 pub mod ChangedPostings
@@ -21,6 +22,7 @@ pub mod JoinedLayers
 pub mod KeptShards
 pub mod LoggedMaps
 pub mod MergedTables
+pub mod NotesJoined
 pub mod OneNoted
 pub mod OnlyChanged
 pub mod PostedRows

@@ -1,3 +1,4 @@
+pub mod BatchEdges
 pub mod Batches
 pub mod Begun
 pub mod ChangedRows

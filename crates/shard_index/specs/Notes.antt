@@ -1,5 +1,5 @@
 -- What is noted of each shard as the changes of a batch are gone through.
-use Rattle.std.specs.Prelude.{◌≡◌, ℕ, true, ◌==◌, ◌&&◌, if◌then◌else◌, List, ◌++◌, Option, None, Some}
+use Rattle.std.specs.Prelude.{◌≡◌, ℕ, true, ◌==◌, ◌&&◌, if◌then◌else◌, List, [], ◌∷◌, ◌++◌, Option, None, Some}
 use Rattle.std.specs.FinMap as finite
 use Rattle.std.specs.List.{AllZip}
 use Rattle.uni_base.specs.declared.entity.Rank.{Rank}
@@ -10,7 +10,9 @@ use Rattle.uni_table.specs.TableState.{TableState}
 use Rattle.uni_table.specs.declared.change.EdgeChange.{EdgeChange}
 use Rattle.uni_table.specs.declared.change.EntityChange.{EntityChange}
 use Rattle.uni_table.specs.declared.command.EntityRow.{EntityRow}
-use Rattle.layer_stack.specs.Postings.{no_changes}
+use Rattle.layer_base.specs.Layers.{put_all}
+use Rattle.layer_base.specs.Lookups.{either}
+use Rattle.layer_stack.specs.Postings.{joined, no_changes}
 use Rattle.forward_data.specs.declared.record.RecordKey.{RecordKey}
 use Rattle.shard_index.specs.declared.batch.notes.ShardNotes.{ShardNotes}
 use Rattle.shard_index.specs.Batches.{ShardPlace, all_shards}
@@ -32,6 +34,21 @@ with_put notes id rank = record notes { entities = ranking notes.entities id ran
 abbrev pub with_edge : Contents → Store → EdgeChange → ShardNotes → ShardNotes
 with_edge table Index change notes = record notes { postings = with_change notes.postings change }
 with_edge table Forward change notes = record notes { records = replacing_new table notes.records notes.last (changed_key change); last = latest notes.last (changed_key change) }
+
+-- notes, and what was noted of edges alone after them
+abbrev pub with_notes : ShardNotes → ShardNotes → ShardNotes
+with_notes old later = record {
+  entities = old.entities;
+  postings = joined old.postings later.postings;
+  records = put_all (finite.entries later.records) old.records;
+  last = either later.last old.last;
+}
+
+-- the same of each shard
+abbrev pub with_all : List ShardNotes → List ShardNotes → List ShardNotes
+with_all [] later = []
+with_all (n ∷ old) [] = n ∷ old
+with_all (n ∷ old) (m ∷ later) = with_notes n m ∷ with_all old later
 
 -- the layer of what was noted
 abbrev pub noted_layer : ShardNotes → ShardChanges

@@ -15,7 +15,7 @@ mod ranks;
 mod stacks;
 mod version;
 
-pub use batch::batch_layers;
+pub use batch::{batch_layers, batch_layers_by};
 pub use delta::EntityDelta;
 pub use entities::EntityLayer;
 pub use index::{ShardIndex, TermCursor};

@@ -1,5 +1,5 @@
 //! What a batch changed of the edges of shards.
-ghost use Rattle.std.specs.Prelude.{◌≡◌, ◌<◌, [], ◌∷◌, length, OnOk};
+ghost use Rattle.std.specs.Prelude.{◌≡◌, ◌<◌, ◌≤◌, ◌-◌, [], ◌∷◌, length, take, drop, OnOk};
 ghost use Rattle.std.specs.List.{All};
 ghost use Rattle.uni_table.specs.TableState.{IsKept};
 ghost use Rattle.shard_index.specs.Batches.{all_shards};
@@ -17,25 +17,30 @@ use uni_table::{ChangedEdges, EdgeChange, Table};
 /// How many changes are made at a time.
 const PART: usize = 1_024;
 
-/// Notes changes of edges, which are made a part at a time, each in the shard that keeps its edge.
-pub(super) fn note_edges(
+/// Notes the changes of edges from one place up to another, which are made a part at a time, each in the shard that
+/// keeps its edge.
+pub(super) fn note_changes(
     alloc: Global,
     table: &Table,
     firsts: &[usize],
     changes: &ChangedEdges<'_>,
+    from: usize,
+    to: usize,
     notes: &mut [ShardNotes],
 ) -> Result<(), AllocError>
+    requires within { (from ≤ to) × (to ≤ length changes.now) }
     requires declared { All (λ c. c.edge.type_no < length table.now.schema.types) changes.now }
     requires firsts { AreFirsts table.now.schema firsts.now }
     requires count { length notes.old ≡ length (all_shards table.now.schema) }
-    ensures { OnOk result (NotesEdges table.now changes.now notes.old notes.new) }
+    ensures count { length notes.new ≡ length notes.old }
+    ensures noted { OnOk result (NotesEdges table.now (take (to - from) (drop from changes.now)) notes.old notes.new) }
 {
-    let mut from = 0;
-    while from < changes.len() {
-        let to = from + (changes.len() - from).min(PART);
-        let part = changes.part(from, to)?;
+    let mut at = from;
+    while at < to {
+        let next = at + (to - at).min(PART);
+        let part = changes.part(at, next)?;
         note_part(alloc, table, firsts, part.as_slice(), notes)?;
-        from = to;
+        at = next;
     }
     Ok(())
 }

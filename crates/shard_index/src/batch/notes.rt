@@ -2,7 +2,7 @@
 ghost use Rattle.std.specs.Prelude.{◌≡◌, length, replicate, IfOk, OnOk};
 ghost use Rattle.shard_index.specs.Batches.{all_shards};
 ghost use Rattle.shard_index.specs.Numbers.{AreFirsts};
-ghost use Rattle.shard_index.specs.Notes.{no_notes, with_removal, with_put, noted_layer};
+ghost use Rattle.shard_index.specs.Notes.{no_notes, with_all, with_notes, with_removal, with_put, noted_layer};
 ghost use Rattle.shard_index.specs.Rows.{empty_layer};
 
 use crate::{EntityDelta, EntityLayer, ShardLayer};
@@ -48,6 +48,24 @@ impl ShardNotes {
         self.entities.put(id, rank)
     }
 
+    /// Adds what was noted of edges alone, after these.
+    pub(super) fn append(&mut self, later: ShardNotes) -> Result<(), AllocError>
+        ensures { OnOk result (self.new ≡ with_notes self.old later) }
+    {
+        let ShardNotes {
+            entities: _,
+            postings,
+            records,
+            last,
+        } = later;
+        self.postings.append(&postings)?;
+        self.records.append(records)?;
+        if last.is_some() {
+            self.last = last;
+        }
+        Ok(())
+    }
+
     /// The layer of what was noted. For what nothing was noted of it shares the part of an empty layer.
     pub(super) fn layer(self, alloc: Global, empty: &ShardLayer) -> Result<ShardLayer, AllocError>
         requires { empty.now ≡ empty_layer }
@@ -83,4 +101,21 @@ pub(super) fn empty_notes(
         notes.push(ShardNotes::new(alloc, terms, postings / count)?)?;
     }
     Ok(notes)
+}
+
+/// Adds what was noted of edges alone after what was noted, shard by shard.
+pub(super) fn append_notes(
+    notes: &mut [ShardNotes],
+    later: Vec<ShardNotes>,
+) -> Result<(), AllocError>
+    requires { length later.items ≡ length notes.old }
+    ensures count { length notes.new ≡ length notes.old }
+    ensures joined { OnOk result (notes.new ≡ with_all notes.old later.items) }
+{
+    let mut at = 0;
+    for shard in later {
+        notes[at].append(shard)?;
+        at += 1;
+    }
+    Ok(())
 }

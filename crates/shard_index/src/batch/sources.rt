@@ -1,12 +1,12 @@
 //! All edges of a table, as they are noted of its shards.
-ghost use Rattle.std.specs.Prelude.{◌≡◌, ◌<◌, Some, [], ◌∷◌, length, map, OnOk};
+ghost use Rattle.std.specs.Prelude.{◌≡◌, ◌<◌, ◌≤◌, Some, [], ◌∷◌, length, map, OnOk};
 ghost use Rattle.std.specs.List.{All};
 ghost use Rattle.uni_schema.specs.Schema.{type_at};
 ghost use Rattle.uni_schema.specs.declared.schema.Store.TheVariants.{Index, Forward};
 ghost use Rattle.uni_table.specs.Sources.{AreSources, AreTargets};
 ghost use Rattle.uni_table.specs.TableState.{IsKept};
 ghost use Rattle.shard_index.specs.Batches.{all_shards};
-ghost use Rattle.shard_index.specs.FullEdges.{change_to, IsTargetOf, NotesAll};
+ghost use Rattle.shard_index.specs.FullEdges.{change_to, IsTargetOf, NotesSources};
 ghost use Rattle.shard_index.specs.Numbers.{AreFirsts};
 ghost use Rattle.shard_index.specs.Notes.{NotesEdges};
 
@@ -20,22 +20,27 @@ use uni_base::EdgeRef;
 use uni_schema::{Store, TypeDef};
 use uni_table::{EdgeChange, EdgeRow, EdgeSources, Source, Table, Target, TargetList};
 
-/// Notes all edges, each in the shard that keeps it: type by type and key by key, and there in rank order.
+/// Notes the edges of the types and keys from one place up to another, each in the shard that keeps it: type by type
+/// and key by key, and there in rank order.
 pub(super) fn note_sources(
     alloc: Global,
     table: &Table,
     firsts: &[usize],
     sources: &EdgeSources<'_>,
+    from: usize,
+    to: usize,
     notes: &mut [ShardNotes],
 ) -> Result<(), AllocError>
+    requires within { (from ≤ to) × (to ≤ length sources.now.sources) }
     requires sources { AreSources (length table.now.schema.types) table.now.contents sources.now }
     requires firsts { AreFirsts table.now.schema firsts.now }
     requires count { length notes.old ≡ length (all_shards table.now.schema) }
     requires kept { IsKept table.now.schema table.now.limits table.now.contents }
-    ensures { OnOk result (NotesAll table.now notes.old notes.new) }
+    ensures count { length notes.new ≡ length notes.old }
+    ensures noted { OnOk result (NotesSources table.now sources.now.sources from to notes.old notes.new) }
 {
     let mut list = TargetList::new(alloc);
-    for at in 0..sources.len() {
+    for at in from..to {
         sources.read(at, &mut list)?;
         let source = sources.source(at);
         note_source(alloc, table, firsts, &source, list.as_slice(), notes)?;

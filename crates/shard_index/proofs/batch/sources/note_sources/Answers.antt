@@ -4,12 +4,12 @@ use Rattle.std.specs.List.{All}
 use Rattle.uni_table.specs.Contents.{Contents}
 use Rattle.uni_table.specs.Sources.{AreTargets}
 use Rattle.uni_table.specs.declared.graph.numbers.Source.{Source}
-use Rattle.shard_index.specs.FullEdges.{IsTargetOf}
-use Rattle.shard_index.proofs.FullEdges.{NotesSources, all_read, are_targets, none_read, one_read}
+use Rattle.shard_index.specs.FullEdges.{IsTargetOf, NotesSources}
+use Rattle.shard_index.proofs.FullEdges.{are_targets, none_read, one_read}
 use Rattle.shard_index.proofs.batch.sources.note_sources.Goals as goal
 
 pub loop-at-init : goal.loop-at-init
-loop-at-init c = record { count = refl; read = none_read c.args.table.now c.args.sources.now.sources c.args.notes.now }
+loop-at-init c = record { count = refl; read = none_read c.args.table.now c.args.sources.now.sources c.args.from c.args.notes.now }
 
 pub note_source-requires-clause-declared : goal.note_source-requires-clause-declared
 note_source-requires-clause-declared c =
@@ -32,13 +32,15 @@ loop-at-preserved c =
     let next = c.in_ok-note_source.ensures {u = tt} in
     record {
       count = c.note_source.ensures.count ∙ c.loop-at.invariant.count;
-      read = one_read table c.requires.kept sources c.loop-at.at c.args.notes.now c.loop-at.notes c.note_source.new.notes source c.as_slice.result.now
+      read = one_read table c.requires.kept sources c.args.from c.loop-at.at c.args.notes.now c.loop-at.notes c.note_source.new.notes source c.as_slice.result.now
           (slice_get_within sources c.loop-at.at source at) (sym (get_or_from_slice_get sources c.loop-at.at source source at)) are c.loop-at.invariant.read next.noted;
     }
 
 pub returns : goal.returns
 returns c =
-    let table = c.args.table.now in let sources = c.args.sources.now.sources in
-    let all : c.loop-at.at ≡ length sources = omega (arith, c.loop-at-test.false, c.loop-at.auto.at-end, c.len-at-end.ensures) in
-    all_read table c.requires.kept sources c.args.notes.now c.loop-at.notes c.args.sources.now refl c.requires.sources
-    (subst (λ n. NotesSources table sources n c.args.notes.now c.loop-at.notes) all c.loop-at.invariant.read)
+    let table = c.args.table.now in
+    let all : c.loop-at.at ≡ c.args.to = omega (arith, c.loop-at-test.false, c.loop-at.auto.at, c.loop-at.auto.at-end, c.requires.within) in
+    record {
+      count = c.loop-at.invariant.count;
+      noted = subst (λ n. NotesSources table c.args.sources.now.sources c.args.from n c.args.notes.now c.loop-at.notes) all c.loop-at.invariant.read;
+    }
