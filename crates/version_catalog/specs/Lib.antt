@@ -3,6 +3,7 @@ pub mod Core
 pub mod Examples
 pub mod Installs
 pub mod Journals
+pub mod Layered
 pub mod Refused
 pub mod Seats
 pub mod Settings
