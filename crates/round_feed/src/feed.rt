@@ -2,6 +2,8 @@ ghost use Rattle.std.specs.Prelude.{IfOk, Some, length};
 ghost use Rattle.script_rounds.specs.Entries.{change, publish};
 ghost use Rattle.script_rounds.specs.Fits.{ItemFits, ItemsFit};
 ghost use Rattle.uni_table.specs.Commands.{IsDeclared};
+ghost use Rattle.shard_index.specs.Batches.{TakeOver, all_shards};
+ghost use Rattle.version_catalog.specs.Layered.{MakesLayers};
 ghost use Rattle.version_catalog.specs.Seats.{IsFeederOf, KeepsSeat, feeder_table};
 ghost use Rattle.round_feed.specs.Fed.{IsFed, feed_entry};
 ghost use Rattle.round_feed.specs.FedLine.{IsFedLine, feeder_terms};
@@ -11,9 +13,11 @@ use crate::answers::add_answer;
 use rack_aggregate::{Gate, Point};
 use reply_text::{Answer, AnswerList};
 use script_rounds::{Item, ItemList};
+use shard_index::{ShardLayer, batch_layers, batch_layers_by};
 use std::alloc::{AllocError, Global};
 use std::sync::Wait;
-use uni_table::Command;
+use std::thread::Threads;
+use uni_table::{Command, Table};
 use version_catalog::{Catalogue, Feeder, PublishRefusal};
 
 // The code of a publish where as many were made as there may be.
@@ -34,10 +38,55 @@ pub fn feed_round<R: Wait, G: Gate>(
     ensures taken { HasFed catalogue.now (length items.now) feeder.old feeder.new }
     ensures fed { IfOk result (λ answers. IsFed (terms_of catalogue.now) (feed_of feeder.old) items.now answers (feed_of feeder.new)) }
 {
+    let layers_of = |table: &Table| -> Result<Vec<ShardLayer>, AllocError>
+        ensures { IfOk result (λ layers. TakeOver table.now (all_shards table.now.schema) layers.items) }
+    { batch_layers(alloc, table) };
+    feed_items(rt, alloc, catalogue, feeder, items, &layers_of, gate)
+}
+
+/// The same, where at most as many threads as there are workers go through the edges of a publish, for its layers. No
+/// worker counts as one.
+pub fn feed_round_by<R: Threads + Wait + Sync, G: Gate>(
+    rt: &R,
+    alloc: Global,
+    catalogue: &Catalogue,
+    feeder: &mut Feeder,
+    items: &ItemList,
+    workers: u32,
+    gate: &G,
+) -> Result<AnswerList, AllocError>
+    requires may { MayFeed catalogue.now (length items.now) feeder.old }
+    requires fit { ItemsFit (terms_of catalogue.now) items.now }
+    ensures taken { HasFed catalogue.now (length items.now) feeder.old feeder.new }
+    ensures fed { IfOk result (λ answers. IsFed (terms_of catalogue.now) (feed_of feeder.old) items.now answers (feed_of feeder.new)) }
+{
+    let layers_of = |table: &Table| -> Result<Vec<ShardLayer>, AllocError>
+        ensures { IfOk result (λ layers. TakeOver table.now (all_shards table.now.schema) layers.items) }
+    { batch_layers_by(rt, alloc, table, workers) };
+    feed_items(rt, alloc, catalogue, feeder, items, &layers_of, gate)
+}
+
+// Takes the lines of a round, and publishes by layers that a closure makes.
+fn feed_items<R: Wait, F: Fn(&Table) -> Result<Vec<ShardLayer>, AllocError>, G: Gate>(
+    rt: &R,
+    alloc: Global,
+    catalogue: &Catalogue,
+    feeder: &mut Feeder,
+    items: &ItemList,
+    layers_of: &F,
+    gate: &G,
+) -> Result<AnswerList, AllocError>
+    requires may { MayFeed catalogue.now (length items.now) feeder.old }
+    requires fit { ItemsFit (terms_of catalogue.now) items.now }
+    requires callable { F.IsAlwaysCallable layers_of.now }
+    requires layers { MakesLayers F.Fn layers_of.now }
+    ensures taken { HasFed catalogue.now (length items.now) feeder.old feeder.new }
+    ensures fed { IfOk result (λ answers. IsFed (terms_of catalogue.now) (feed_of feeder.old) items.now answers (feed_of feeder.new)) }
+{
     feeder.reserve_edges(edges_in(items));
     let mut answers = AnswerList::new(alloc);
     for item in items.as_slice() {
-        let answer = feed_line(rt, catalogue, feeder, item, gate);
+        let answer = feed_line(rt, catalogue, feeder, item, layers_of, gate);
         add_answer(&mut answers, answer)?;
     }
     Ok(answers)
@@ -57,21 +106,24 @@ fn edges_in(round: &ItemList) -> usize {
 }
 
 // Takes a line, if it is one of the feed.
-fn feed_line<R: Wait, G: Gate>(
+fn feed_line<R: Wait, F: Fn(&Table) -> Result<Vec<ShardLayer>, AllocError>, G: Gate>(
     rt: &R,
     catalogue: &Catalogue,
     feeder: &mut Feeder,
     item: &Item,
+    layers_of: &F,
     gate: &G,
 ) -> Option<Answer>
     requires may { MayFeed catalogue.now 1 feeder.old }
     requires fits { ItemFits (terms_of catalogue.now) item.now }
+    requires callable { F.IsAlwaysCallable layers_of.now }
+    requires layers { MakesLayers F.Fn layers_of.now }
     ensures taken { HasFed catalogue.now 1 feeder.old feeder.new }
     ensures fed { IsFedLine (terms_of catalogue.now) (feed_of feeder.old) (feed_entry item.now) result (feed_of feeder.new) }
 {
     match item {
         Item::Change(line, command) => feed_change(feeder, *line, &command.command()),
-        Item::Publish(line) => Some(feed_publish(rt, catalogue, feeder, *line, gate)),
+        Item::Publish(line) => Some(feed_publish(rt, catalogue, feeder, *line, layers_of, gate)),
         _ => None,
     }
 }
@@ -93,18 +145,21 @@ fn feed_change(feeder: &mut Feeder, line: u64, command: &Command) -> Option<Answ
 }
 
 // A publish at the limit has no effect.
-fn feed_publish<R: Wait, G: Gate>(
+fn feed_publish<R: Wait, F: Fn(&Table) -> Result<Vec<ShardLayer>, AllocError>, G: Gate>(
     rt: &R,
     catalogue: &Catalogue,
     feeder: &mut Feeder,
     line: u64,
+    layers_of: &F,
     gate: &G,
 ) -> Answer
-    requires { MayFeed catalogue.now 1 feeder.old }
+    requires may { MayFeed catalogue.now 1 feeder.old }
+    requires callable { F.IsAlwaysCallable layers_of.now }
+    requires layers { MakesLayers F.Fn layers_of.now }
     ensures taken { HasFed catalogue.now 1 feeder.old feeder.new }
     ensures fed { IsFedLine (terms_of catalogue.now) (feed_of feeder.old) (Some (publish line)) (Some result) (feed_of feeder.new) }
 {
-    match catalogue.publish(rt, feeder) {
+    match catalogue.publish_with(rt, feeder, layers_of) {
         Ok(number) => {
             gate.at(rt, Point::Published(number));
             Answer::Published(line, number)

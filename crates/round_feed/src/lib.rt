@@ -8,4 +8,4 @@ mod feed;
 mod tests;
 
 pub use compactions::compact_round;
-pub use feed::feed_round;
+pub use feed::{feed_round, feed_round_by};

@@ -12,7 +12,7 @@ use crate::parts::Parts;
 use rack_aggregate::Gate;
 use replica_pick::Chooser;
 use reply_text::AnswerList;
-use round_feed::{compact_round, feed_round};
+use round_feed::{compact_round, feed_round, feed_round_by};
 use script_rounds::ItemList;
 use session_asks::{AskList, ask_sessions};
 use std::alloc::{AllocError, Global};
@@ -107,7 +107,7 @@ fn work<R: Threads + Wait + Sync, C: Chooser + Sync, G: Gate + Sync>(
     ensures asked { AsksDone catalogue.now asks.now sessions.old sessions.new result.1.1 }
 {
     if feed.is_empty() || (compactions.is_empty() && !has_asks(asks)) {
-        let fed = feed_round(rt, alloc, catalogue, feeder, feed, gate);
+        let fed = feed_round_by(rt, alloc, catalogue, feeder, feed, workers, gate);
         let others = compact_and_ask(
             rt,
             alloc,

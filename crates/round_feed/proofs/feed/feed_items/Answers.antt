@@ -2,7 +2,7 @@ use Rattle.round_feed.specs.Seats.{feed_of, terms_of}
 use Rattle.round_feed.proofs.Feeding.{is_fed_next}
 use Rattle.round_feed.proofs.Items.{item_fits}
 use Rattle.round_feed.proofs.Seated.{fed_more}
-use Rattle.round_feed.proofs.feed.feed_round.Goals as goal
+use Rattle.round_feed.proofs.feed.feed_items.Goals as goal
 
 pub feed_line-answer-requires-clause-fits : goal.feed_line-answer-requires-clause-fits
 feed_line-answer-requires-clause-fits g c =

@@ -2,7 +2,7 @@
 use Rattle.std.proofs.Common.{take}
 use Rattle.round_feed.specs.Fed.{IsFed}
 use Rattle.round_feed.specs.Seats.{HasFed, feed_of, terms_of}
-use Rattle.round_feed.proofs.feed.feed_round.Given as goal
+use Rattle.round_feed.proofs.feed.feed_items.Given as goal
 
 abbrev pub invariant-loop-item : goal.invariant-loop-item
 invariant-loop-item g l = record {
