@@ -10,6 +10,7 @@ mod batches;
 mod catalogues;
 mod noise;
 mod shards;
+mod workers;
 
 // Users in two shards of two replicas and photos in one: friends, where users live, the photos that they are
 // tagged in, the users whom a photo shows, and those whom a user has blocked. A bar ends a line.

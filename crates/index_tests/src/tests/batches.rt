@@ -30,10 +30,10 @@ const MANY: u64 = 1_000;
 const SHOWN: u64 = 60;
 
 // The entries of their layers: of either shard of users the put of each, and its posting; and a record.
-const MANY_ENTRIES: [u64; 3] = [1_000, 1_000, 1];
+pub(super) const MANY_ENTRIES: [u64; 3] = [1_000, 1_000, 1];
 
 // Puts lines, which bars part. Fails at the number of the first that the table does not take.
-fn put_all(table: &mut Table, lines: &[u8]) -> Result<(), Fail> {
+pub(super) fn put_all(table: &mut Table, lines: &[u8]) -> Result<(), Fail> {
     for (number, line) in lines.split(|byte| *byte == b'|').enumerate() {
         if !is_put(table, line) {
             return Err(Fail::new(number));
@@ -42,10 +42,15 @@ fn put_all(table: &mut Table, lines: &[u8]) -> Result<(), Fail> {
     Ok(())
 }
 
-fn published(alloc: Global) -> Result<Table, Fail> {
+// A table without rows.
+pub(super) fn unfilled(alloc: Global) -> Result<Table, Fail> {
     let schema = schema(alloc, HEADER).ok_or("no header")?;
     let schema = Arc::new(alloc, schema)?;
-    let mut table = Table::new(alloc, schema, Limits::standard());
+    Ok(Table::new(alloc, schema, Limits::standard()))
+}
+
+fn published(alloc: Global) -> Result<Table, Fail> {
+    let mut table = unfilled(alloc)?;
     put_all(&mut table, ROWS)?;
     table.begin_batch();
     Ok(table)
@@ -54,6 +59,11 @@ fn published(alloc: Global) -> Result<Table, Fail> {
 // Whether the layers of a table's batch have so many entries.
 fn has_entries(alloc: Global, table: &Table, entries: &[u64]) -> Result<bool, Fail> {
     let layers = batch_layers(alloc, table)?;
+    have_entries(layers.as_slice(), entries)
+}
+
+// Whether layers have so many entries. Fails at the number of the first that has not.
+pub(super) fn have_entries(layers: &[ShardLayer], entries: &[u64]) -> Result<bool, Fail> {
     for (number, layer) in layers.iter().enumerate() {
         if entries.get(number) != Some(&layer.entries()) {
             return Err(Fail::new(number));
@@ -77,7 +87,7 @@ fn a_batch_has_a_layer_for_each_shard(rt: HostRuntime) -> Result<(), Fail> {
 }
 
 // The index of a shard of the table as it was published.
-fn base(alloc: Global, vertical: u16, shard: u32) -> Result<ShardIndex, Fail> {
+pub(super) fn base(alloc: Global, vertical: u16, shard: u32) -> Result<ShardIndex, Fail> {
     let table = published(alloc)?;
     if vertical >= table.schema().verticals() {
         return Err("no such vertical")?;
@@ -148,7 +158,7 @@ fn put_many(alloc: Global, table: &mut Table) -> Result<(), Fail> {
 }
 
 // The table with many users put.
-fn grown(alloc: Global) -> Result<Table, Fail> {
+pub(super) fn grown(alloc: Global) -> Result<Table, Fail> {
     let mut table = published(alloc)?;
     put_many(alloc, &mut table)?;
     Ok(table)
