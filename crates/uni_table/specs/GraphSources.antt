@@ -1,13 +1,14 @@
 -- The sources of edges by number, and what their edges lead to.
-use Rattle.std.specs.Prelude.{◌≡◌, ℕ, nat_lt, List, Option, None, Some, length, slice_get, if◌then◌else◌}
+use Rattle.std.specs.Prelude.{◌≡◌, ℕ, suc, nat_lt, List, Option, None, Some, length, slice_get, if◌then◌else◌}
 use Rattle.std.specs.List.{All, filter_map}
 use Rattle.std.specs.Map.{keys_of}
 use Rattle.std.specs.Option.{option_and_then, option_map}
 use Rattle.uni_base.specs.declared.entity.DocKey.{DocKey}
 use Rattle.uni_table.specs.GraphChanges.{place_of}
 use Rattle.uni_table.specs.GraphOrder.{edge_told, placed_at, type_told}
-use Rattle.uni_table.specs.GraphRows.{audience_named, has_at, last_at, IsCircleKnown, IsRows}
+use Rattle.uni_table.specs.GraphRows.{audience_named, has_at, last_at, next_at, IsCircleKnown, IsRows}
 use Rattle.uni_table.specs.Sources.{source_from}
+use Rattle.uni_table.specs.declared.graph.edge_copies.EdgeCopy.{EdgeCopy}
 use Rattle.uni_table.specs.declared.graph.numbers.EdgeNo.{EdgeNo}
 use Rattle.uni_table.specs.declared.graph.numbers.Node.{Node}
 use Rattle.uni_table.specs.declared.graph.numbers.Side.TheVariants.{Source as From}
@@ -33,6 +34,13 @@ all_ends rows q = filter_map (end_at q) rows.edges.entries
 -- the circles of edges are sources that there are
 abbrev pub AreEnds : Rows → List FarEnd → Type 0
 AreEnds rows ends = All (λ end. IsCircleKnown (length rows.sources.entries) end.state) ends
+
+-- a copy of an edge by its number, which counts from 1
+abbrev pub IsCopy : Rows → EdgeCopy → Type 0
+IsCopy rows copy = (i : ℕ) (e : EdgeNo × Slot) → copy.number ≡ suc i → slice_get rows.edges.entries i ≡ Some e → (copy.end ≡ far_end e) × (copy.next ≡ next_at From e.1)
+
+abbrev pub AreCopies : Rows → List EdgeCopy → Type 0
+AreCopies rows copies = All (IsCopy rows) copies
 
 -- the place in rank order of an id, if it is an entity
 abbrev pub doc_in : ℕ × Node → Option DocKey

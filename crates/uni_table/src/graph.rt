@@ -7,6 +7,7 @@ mod affected;
 mod batches;
 pub mod changed_edges;
 mod changes;
+mod edge_copies;
 mod edges;
 mod ends;
 mod entities;

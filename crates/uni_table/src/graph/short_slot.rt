@@ -171,6 +171,26 @@ impl ShortSlot {
         }
     }
 
+    /// Whether the edge is gone, and else its audience.
+    pub fn state(&self) -> SlotState
+        ensures { result ≡ self.now.state }
+    {
+        match &self.packed {
+            Packed::Short(kind, _, circle, _, _) => kind.state(*circle),
+            Packed::Long(slot) => slot.state,
+        }
+    }
+
+    /// The number of the last earlier edge with the same source, or 0.
+    pub fn next_from(&self) -> u32
+        ensures { result ≡ self.now.next_from }
+    {
+        match &self.packed {
+            Packed::Short(_, _, _, _, next_from) => *next_from,
+            Packed::Long(slot) => slot.next_from,
+        }
+    }
+
     /// Writes the state and the end of an edge. One that finds no memory stays as it was; that an edge is
     /// gone takes none.
     pub fn write(&mut self, alloc: Global, state: SlotState, end: u64) -> Result<(), AllocError>

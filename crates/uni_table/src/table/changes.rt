@@ -17,8 +17,9 @@ impl Table {
         Ok(by_id(changes))
     }
 
-    /// The types and keys at which edges start, or started, in their order. It costs one pass over them, and a
-    /// sort; what the edges of one lead to is read as it is asked for.
+    /// The types and keys at which edges start, or started, in their order. It costs one pass over them and a
+    /// sort, and two over the edges, of each of which it keeps a copy of 20 bytes; what the edges of one type and
+    /// key lead to is read as it is asked for.
     pub fn edge_sources(&self) -> Result<EdgeSources<'_>, AllocError>
         ensures { IfOk result (AreSources (length self.now.schema.types) self.now.contents) }
     {

@@ -13,16 +13,20 @@ loop-number-init c =
     let rows = c.args.self.now in
     let q = c.args.index in
     record {
-      along = subst (IsAlong rows From q) (sym c.last-number.ensures) (along-start rows c.requires From q);
+      along = subst (IsAlong rows From q) (sym c.last-number.ensures) (along-start rows c.requires.kept From q);
       done =
           sym (ap (λ n. c.args.ends.now.items ++ reverse (filter_map (end_at q) (drop n rows.edges.entries))) c.last-number.ensures
-          ∙ ap (λ xs. c.args.ends.now.items ++ reverse xs) (picks-start rows c.requires From q (end_at q) (end-none q)) ∙ Rattle.std.proofs.lemmas.List.append-nil c.args.ends.now.items);
+          ∙ ap (λ xs. c.args.ends.now.items ++ reverse xs) (picks-start rows c.requires.kept From q (end_at q) (end-none q)) ∙ Rattle.std.proofs.lemmas.List.append-nil c.args.ends.now.items);
     }
 
-pub far_end-next-requires : goal.far_end-next-requires
-far_end-next-requires c =
+pub far_end_by-next-requires : goal.far_end_by-next-requires
+far_end_by-next-requires c =
     let here : c.loop-number.number ≡ suc (c.loop-number.number - 1) = omega arith in
-    along-within c.args.self.now c.requires From c.args.index c.loop-number.number (c.loop-number.number - 1) here c.loop-number.invariant.along
+    record {
+      some = omega (arith, here);
+      within = along-within c.args.self.now c.requires.kept From c.args.index c.loop-number.number (c.loop-number.number - 1) here c.loop-number.invariant.along;
+      copies = c.requires.copies;
+    }
 
 pub loop-number-smaller : goal.loop-number-smaller
 loop-number-smaller c =
@@ -30,8 +34,8 @@ loop-number-smaller c =
     let i = c.loop-number.number - 1 in
     let here : c.loop-number.number ≡ suc (c.loop-number.number - 1) = omega arith in
     let along = c.loop-number.invariant.along in
-    let e = entry-at rows.edges.entries i (along-within rows c.requires From c.args.index c.loop-number.number i here along) in
-    omega (arith, here, (c.far_end-next.ensures e.0 e.1).1, next-le rows c.requires From c.args.index c.loop-number.number i here along e.0 e.1)
+    let e = entry-at rows.edges.entries i (along-within rows c.requires.kept From c.args.index c.loop-number.number i here along) in
+    omega (arith, here, (c.far_end_by-next.ensures e.0 e.1).1, next-le rows c.requires.kept From c.args.index c.loop-number.number i here along e.0 e.1)
 
 pub loop-number-preserved : goal.loop-number-preserved
 loop-number-preserved c =
@@ -40,15 +44,15 @@ loop-number-preserved c =
     let i = c.loop-number.number - 1 in
     let here : c.loop-number.number ≡ suc (c.loop-number.number - 1) = omega arith in
     let along = c.loop-number.invariant.along in
-    let e = entry-at rows.edges.entries i (along-within rows c.requires From q c.loop-number.number i here along) in
-    let read = c.far_end-next.ensures e.0 e.1 in
-    let picked = picks-next rows c.requires From q c.loop-number.number i here along e.0 e.1 (end_at q) (end-none q) in
-    let passes = along-passes rows c.requires From q c.loop-number.number i here along e.0 e.1 in
+    let e = entry-at rows.edges.entries i (along-within rows c.requires.kept From q c.loop-number.number i here along) in
+    let read = c.far_end_by-next.ensures e.0 e.1 in
+    let picked = picks-next rows c.requires.kept From q c.loop-number.number i here along e.0 e.1 (end_at q) (end-none q) in
+    let passes = along-passes rows c.requires.kept From q c.loop-number.number i here along e.0 e.1 in
     record {
-      along = subst (IsAlong rows From q) (sym read.1) (along-next rows c.requires From q c.loop-number.number i here along e.0 e.1);
+      along = subst (IsAlong rows From q) (sym read.1) (along-next rows c.requires.kept From q c.loop-number.number i here along e.0 e.1);
       done =
           c.in_ok-push.ensures.items ∙ ap (λ (x : FarEnd). c.loop-number.ends.items ++ x ∷ []) read.0
-          ∙ reverse-cons c.args.ends.now.items c.loop-number.ends.items (Some (far_end e.0)) (filter_map (end_at q) (drop c.loop-number.number rows.edges.entries)) (filter_map (end_at q) (drop c.far_end-next.result.1 rows.edges.entries))
+          ∙ reverse-cons c.args.ends.now.items c.loop-number.ends.items (Some (far_end e.0)) (filter_map (end_at q) (drop c.loop-number.number rows.edges.entries)) (filter_map (end_at q) (drop c.far_end_by-next.result.1 rows.edges.entries))
           c.loop-number.invariant.done
           (ap (λ n. filter_map (end_at q) (drop n rows.edges.entries)) read.1 ∙ picked ∙ ap (λ o. cons_option o (filter_map (end_at q) (drop c.loop-number.number rows.edges.entries))) (end-here q e.0 passes));
     }
