@@ -27,7 +27,7 @@ use std::thread::Threads;
 use version_catalog::{Catalogue, Compactor, Feeder, Pinned, StackId};
 
 /// How many shards are merged at once at most.
-const MOST_MERGES: u32 = 3;
+const MOST_MERGES: u32 = 2;
 
 /// Ends a round whose lines were worked on: all its answers, of which the last are those of the stacks that were
 /// due.
