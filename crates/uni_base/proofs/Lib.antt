@@ -3,6 +3,7 @@ mod Cut
 mod Digits
 mod Front
 mod Pieces
+pub mod LineLaws
 pub mod RankedLemmas
 pub mod UnitedLemmas
 pub mod WalkLaws

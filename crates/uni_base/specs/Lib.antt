@@ -3,6 +3,7 @@ pub mod EdgeOrder
 pub mod Fields
 pub mod KeyHash
 pub mod KeySets
+pub mod Lines
 pub mod RankOrder
 pub mod WalkLaws
 pub mod Walks

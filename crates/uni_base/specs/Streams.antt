@@ -16,3 +16,8 @@ Reads (Some bytes) after n buffer room =
 abbrev pub Takes : Option (List ℕ) → Option (List ℕ) → ℕ → List ℕ → Type 0
 Takes None after n piece = after ≡ None
 Takes (Some bytes) after n piece = after ≡ Some (bytes ++ take n piece)
+
+-- a reader or a writer of the system, and how many of its calls have failed
+pub record Counted (X : Type 0) : Type 0 where
+  pub inner : X
+  pub faults : ℕ

@@ -18,7 +18,10 @@ is_word_byte c = is_letter c || is_digit c || (c == 45) || (c == 95)
 abbrev pub is_word : List ℕ → Bool
 is_word text = nat_le 1 (length text) && nat_le (length text) 32 && list_all is_word_byte text
 
--- a name is a word whose first byte is a letter
 abbrev pub starts_with_letter : List ℕ → Bool
 starts_with_letter [] = false
 starts_with_letter (c ∷ cs) = is_letter c
+
+-- a name is a word whose first byte is a letter
+abbrev pub is_name : List ℕ → Bool
+is_name text = is_word text && starts_with_letter text

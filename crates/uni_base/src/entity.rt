@@ -1,4 +1,4 @@
-ghost use Rattle.std.specs.Prelude.{◌≡◌, None, ◌↔◌, IfSome};
+ghost use Rattle.std.specs.Prelude.{◌≡◌, ◌<◌, None, ◌↔◌, IfSome};
 ghost use Rattle.std.proofs.Common.{rules};
 ghost use Rattle.std.specs.Cmp.{partial_order_from_own_ties};
 ghost use Rattle.std.specs.Cmp.Rules.{comparing};
@@ -38,7 +38,8 @@ impl EntityId {
     }
 
     pub fn get(self) -> u64
-        ensures { result ≡ self }
+        ensures number { result ≡ self }
+        ensures some { 0 < result }
     {
         self.0
     }

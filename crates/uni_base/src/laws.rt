@@ -1,6 +1,13 @@
-//! Laws about the walks, each the contract of a function that does nothing. They hold of entities of any
-//! type `K`.
+//! Laws about lines and about the walks, each the contract of a function that does nothing. Those on walks hold
+//! of entities of any type `K`.
+ghost use Rattle.uni_base.specs.Lines.{LinesAreRead};
 ghost use Rattle.uni_base.specs.WalkLaws.{WeakWalkIsExact, StrongWalkIsExact, WeakWalkIsAnd, StrongWalkIsOr, WeakWalkGoesByCounts, WalksPassOthers};
+
+/// The bytes of lines are read as those lines again, where none of them holds an LF.
+#[tactic(auto, using(crate::proofs::LineLaws::lines_are_read))]
+pub fn lines_are_read()
+    ensures { LinesAreRead }
+{}
 
 /// A weak walk keeps exactly each entity that some operand has and with which all quotas still hold, where
 /// no weight is above the whole; and they hold of each beginning of what it keeps.
