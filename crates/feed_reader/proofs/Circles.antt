@@ -3,7 +3,7 @@ use Rattle.std.proofs.Common.{◌≡◌, ◌≢◌, ℕ, true, List, [], ◌∷�
 use Rattle.std.specs.Option.{option_map, option_and_then}
 use Rattle.uni_base.specs.Fields.{cut_at}
 use Rattle.uni_schema.specs.Lines.{name_of}
-use Rattle.uni_schema.specs.Schema.{Declarations, is_name, type_no}
+use Rattle.uni_schema.specs.Schema.{Declarations, type_no}
 use Rattle.uni_table.specs.declared.command.AudienceText.{AudienceText}
 use Rattle.uni_table.specs.declared.command.AudienceText.TheVariants.{Circle}
 use Rattle.feed_reader.specs.FeedText.{circle_audience, audience_meant}
@@ -12,6 +12,7 @@ use Rattle.feed_reader.specs.Names.{IsFoundBy, IsLastBefore}
 use Rattle.feed_reader.specs.Parts.{circle_by}
 use Rattle.feed_reader.specs.Reading.{circle_of, word_of}
 use Rattle.feed_reader.specs.declared.names.Found.{Found}
+use Rattle.uni_base.specs.Words.{is_name}
 use Rattle.feed_reader.proofs.Parts.{cut_given, name_given, name_no_colon}
 
 -- a name, a colon and a text are cut there

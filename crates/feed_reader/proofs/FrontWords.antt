@@ -6,10 +6,9 @@ use Rattle.std.proofs.lemmas.Bool.{and_parts}
 use Rattle.std.proofs.lemmas.List.{append-nil}
 use Rattle.std.proofs.lemmas.List.Sums.{take_while-cons}
 use Rattle.uni_base.specs.Fields.{same, cut_at, fields_of, spaced}
-use Rattle.uni_base.specs.Words.{is_word, is_word_byte, starts_with_letter}
+use Rattle.uni_base.specs.Words.{is_word, is_word_byte, starts_with_letter, is_name}
 use Rattle.uni_base.proofs.FieldLemmas.{spaced-fields_of}
 use Rattle.uni_schema.specs.Lines.{name_of}
-use Rattle.uni_schema.specs.Schema.{is_name}
 use Rattle.feed_reader.specs.Fields.{begins_with, first_as, front_as, goes_on, in_front, is_first}
 use Rattle.feed_reader.specs.Reading.{word_of}
 use Rattle.feed_reader.proofs.Circles.{front_named}

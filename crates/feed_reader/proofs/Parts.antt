@@ -11,9 +11,8 @@ use Rattle.std.proofs.lemmas.Option.{some_pair_parts}
 use Rattle.std.proofs.lemmas.List.Folds.{list_all-append}
 use Rattle.uni_base.specs.Fields.{same, cut_at}
 use Rattle.uni_base.specs.Numbers.{number_between}
-use Rattle.uni_base.specs.Words.{is_word, is_word_byte, is_digit, starts_with_letter}
+use Rattle.uni_base.specs.Words.{is_word, is_word_byte, is_digit, starts_with_letter, is_name}
 use Rattle.uni_schema.specs.Lines.{name_of}
-use Rattle.uni_schema.specs.Schema.{is_name}
 use Rattle.feed_reader.specs.FeedText.{WrittenAudience, public_audience, only_audience, circle_audience, audience_text, until_fields, is_audience, is_until, is_between}
 use Rattle.feed_reader.specs.Reading.{word_of, circle_parts, circle_of, audience_in, until_in}
 use Rattle.feed_reader.proofs.Numerals.{between_read, between_given, decimal_digits}

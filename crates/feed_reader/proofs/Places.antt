@@ -11,10 +11,11 @@ use Rattle.std.proofs.lemmas.Option.{slice_get-get_or}
 use Rattle.std.proofs.lemmas.List.{length-map}
 use Rattle.uni_base.specs.Fields.{same}
 use Rattle.uni_schema.specs.Print.{vertical_name}
-use Rattle.uni_schema.specs.Schema.{Declarations, IsSchema, is_name, is_vertical_name, are_fresh, vertical_names, type_names, vertical_no, type_no}
+use Rattle.uni_schema.specs.Schema.{Declarations, IsSchema, is_vertical_name, are_fresh, vertical_names, type_names, vertical_no, type_no}
 use Rattle.uni_schema.specs.declared.schema.VerticalDef.{VerticalDef}
 use Rattle.uni_schema.specs.declared.schema.TypeDef.{TypeDef}
 use Rattle.uni_schema.proofs.Kept.{passes_at}
+use Rattle.uni_base.specs.Words.{is_name}
 use Rattle.feed_reader.specs.Printing.{type_name}
 
 untrue : (b : Bool) → not b ≡ true → b ≡ false

@@ -4,14 +4,14 @@ use Rattle.std.specs.Cmp.Derive.{both_true}
 use Rattle.std.specs.Option.{option_map, option_and_then}
 use Rattle.std.proofs.lemmas.Bool.{and_parts}
 use Rattle.std.proofs.lemmas.Bool.Decides.{nat_tests}
-use Rattle.uni_base.specs.Words.{is_word}
-use Rattle.uni_schema.specs.Schema.{Declarations, IsSchema, is_name, vertical_no, type_no}
+use Rattle.uni_base.specs.Words.{is_word, is_name}
+use Rattle.uni_schema.specs.Schema.{Declarations, IsSchema, vertical_no, type_no}
 use Rattle.uni_table.specs.Commands.{IsDeclaredAudience}
 use Rattle.uni_table.specs.declared.command.AudienceText.{AudienceText}
 use Rattle.uni_table.specs.declared.command.AudienceText.TheVariants.{Public, Only, Circle}
 use Rattle.uni_table.specs.declared.command.Command.TheVariants.{Entity, Gone, Edge, Cut}
 use Rattle.feed_reader.specs.FeedText.{WrittenAudience, public_audience, only_audience, circle_audience, WrittenLine, entity_line, gone_line, edge_line, cut_line, publish_line, is_between, is_id, is_audience, is_until, is_written, written_text, audience_meant, line_meant, Spells}
-use Rattle.feed_reader.specs.Printing.{LineIsDeclared, HasUntil, HasIds, LineFits, HasWord, until_of, type_name, audience_written, line_written, line_text, TextIsRead, ReadIsPrinted}
+use Rattle.feed_reader.specs.Printing.{LineIsDeclared, HasUntil, IsIdNumber, LineFits, HasWord, until_of, type_name, audience_written, line_written, line_text, TextIsRead, ReadIsPrinted}
 use Rattle.feed_reader.specs.Reading.{written_of, answer, known, feed_line_of}
 use Rattle.feed_reader.specs.declared.line.FeedLine.{FeedLine}
 use Rattle.feed_reader.specs.declared.line.FeedLine.TheVariants.{Change, Publish}
@@ -69,8 +69,8 @@ text_is_read = record { is = read_again }
 within : (low high n : ℕ) → low ≤ n → n ≤ high → is_between low high n ≡ true
 within low high n above below = grind (arith, nat_tests)
 
-id_within : (id : ℕ) → 0 < id → id < 2 ^ 64 → is_id id ≡ true
-id_within id some small = within 1 18446744073709551615 id (omega arith) (omega arith)
+id_within : (id : ℕ) → IsIdNumber id → is_id id ≡ true
+id_within id fits = within 1 18446744073709551615 id (omega (arith, fits.0)) (omega (arith, fits.1))
 
 audience_fits : (schema : Declarations) → IsSchema schema → (audience : AudienceText) → IsDeclaredAudience schema audience → HasWord audience
     → is_audience (audience_written schema audience) ≡ true
@@ -78,16 +78,16 @@ audience_fits schema kept Public declared word = refl
 audience_fits schema kept Only declared word = refl
 audience_fits schema kept (Circle number key) declared word = both_true (type_found schema kept number declared).1 word
 
-pub fields_fit : (schema : Declarations) (line : FeedLine) → IsSchema schema → LineIsDeclared schema line → HasUntil schema line → HasIds line
+pub fields_fit : (schema : Declarations) (line : FeedLine) → IsSchema schema → LineIsDeclared schema line → HasUntil schema line
     → LineFits line → is_written schema.format (line_written schema line) ≡ true
-fields_fit schema (Change (Entity vertical id rank)) kept declared until ids fits =
-    both_true (both_true (vertical_found schema kept vertical declared).1 (id_within id ids fits.0)) (within 0 4294967295 rank.0 (omega arith) (omega (arith, fits.1)))
-fields_fit schema (Change (Gone id)) kept declared until ids fits = id_within id ids fits
-fields_fit schema (Change (Edge number key target audience end)) kept declared until ids fits =
-    both_true (both_true (both_true (both_true (type_found schema kept number declared.0).1 fits.0) (id_within target ids fits.1)) (audience_fits schema kept audience declared.1 fits.2)) until
-fields_fit schema (Change (Cut number key target)) kept declared until ids fits =
-    both_true (both_true (type_found schema kept number declared).1 fits.0) (id_within target ids fits.1)
-fields_fit schema Publish kept declared until ids fits = refl
+fields_fit schema (Change (Entity vertical id rank)) kept declared until fits =
+    both_true (both_true (vertical_found schema kept vertical declared).1 (id_within id fits.0)) (within 0 4294967295 rank.0 (omega arith) (omega (arith, fits.1)))
+fields_fit schema (Change (Gone id)) kept declared until fits = id_within id fits
+fields_fit schema (Change (Edge number key target audience end)) kept declared until fits =
+    both_true (both_true (both_true (both_true (type_found schema kept number declared.0).1 fits.0) (id_within target fits.1)) (audience_fits schema kept audience declared.1 fits.2)) until
+fields_fit schema (Change (Cut number key target)) kept declared until fits =
+    both_true (both_true (type_found schema kept number declared).1 fits.0) (id_within target fits.1)
+fields_fit schema Publish kept declared until fits = refl
 
 -- what was read is written as it was
 audience_back : (schema : Declarations) (written : WrittenAudience) (audience : AudienceText) → audience_meant schema written ≡ Some audience → audience_written schema audience ≡ written

@@ -8,10 +8,10 @@ use Rattle.std.specs.Option.{option_map, option_and_then}
 use Rattle.std.proofs.lemmas.Bool.{and_parts}
 use Rattle.uni_base.specs.Fields.{same, fields_of, spaced}
 use Rattle.uni_base.specs.Numbers.{id_of, number_between}
-use Rattle.uni_base.specs.Words.{is_word}
+use Rattle.uni_base.specs.Words.{is_word, is_name}
 use Rattle.uni_base.proofs.FieldLemmas.{spaced-fields_of, fields_of-spaced}
 use Rattle.uni_schema.specs.Lines.{name_of}
-use Rattle.uni_schema.specs.Schema.{Declarations, is_name}
+use Rattle.uni_schema.specs.Schema.{Declarations}
 use Rattle.feed_reader.specs.FeedText.{WrittenAudience, WrittenLine, entity_line, gone_line, edge_line, cut_line, publish_line, audience_text, until_fields, written_fields, is_id, is_rank, is_audience, is_until, is_written, Spells, line_meant, ReadsAs}
 use Rattle.feed_reader.specs.Reading.{word_of, audience_in, until_in, entity_in, gone_in, edge_in, cut_in, publish_in, written_in, written_of, known, answer, feed_line_of, LinesByText}
 use Rattle.feed_reader.specs.declared.line.FeedLine.{FeedLine}

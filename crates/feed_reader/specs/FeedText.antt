@@ -3,8 +3,8 @@ use Rattle.std.specs.Prelude.{ℕ, Bool, true, ◌≡◌, ◌==◌, ◌&&◌, na
 use Rattle.std.specs.Fmt.{decimal}
 use Rattle.std.specs.Option.{option_map, option_and_then}
 use Rattle.uni_base.specs.Fields.{spaced}
-use Rattle.uni_base.specs.Words.{is_word}
-use Rattle.uni_schema.specs.Schema.{Declarations, is_name, vertical_no, type_no}
+use Rattle.uni_base.specs.Words.{is_word, is_name}
+use Rattle.uni_schema.specs.Schema.{Declarations, vertical_no, type_no}
 use Rattle.uni_table.specs.declared.command.AudienceText.{AudienceText}
 use Rattle.uni_table.specs.declared.command.AudienceText.TheVariants.{Public, Only, Circle}
 use Rattle.uni_table.specs.declared.command.Command.TheVariants.{Entity, Gone, Edge, Cut}

@@ -1,8 +1,9 @@
 -- The names that were found last, each with its number.
 use Rattle.std.specs.Prelude.{ℕ, ◌≡◌, ◌≢◌, true, List, [], ◌∷◌, Option, None, Some, ⊤}
 use Rattle.feed_reader.specs.Fields.{in_front, onto_fields}
-use Rattle.uni_schema.specs.Schema.{Declarations, is_name, vertical_no, type_no}
+use Rattle.uni_schema.specs.Schema.{Declarations, vertical_no, type_no}
 use Rattle.feed_reader.specs.declared.names.Found.{Found}
+use Rattle.uni_base.specs.Words.{is_name}
 use Rattle.feed_reader.specs.declared.names.LastNames.{LastNames}
 
 -- what was found is a name, with the number that a look-up has for it

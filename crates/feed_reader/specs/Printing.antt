@@ -56,26 +56,21 @@ line_written schema Publish = publish_line
 abbrev pub line_text : Declarations → FeedLine → List ℕ
 line_text schema line = written_text (line_written schema line)
 
--- the ids of a line are from 1 on, as those of entities are
-abbrev pub HasIds : FeedLine → Type 0
-HasIds (Change (Entity vertical id rank)) = 0 < id
-HasIds (Change (Gone id)) = 0 < id
-HasIds (Change (Edge number key target audience until)) = 0 < target
-HasIds (Change (Cut number key target)) = 0 < target
-HasIds Publish = ⊤
-
--- the words and the numbers of a change are such as its fields hold: words are words, and numbers are of
--- so many bits
+-- the words and the numbers of a change are such as its fields hold: words are words, ids are from 1 on, and
+-- numbers are of so many bits
 abbrev pub HasWord : AudienceText → Type 0
 HasWord Public = ⊤
 HasWord Only = ⊤
 HasWord (Circle number key) = is_word key ≡ true
 
+abbrev pub IsIdNumber : ℕ → Type 0
+IsIdNumber id = (0 < id) × (id < 2 ^ 64)
+
 abbrev pub FitsFields : Command → Type 0
-FitsFields (Entity vertical id rank) = (id < 2 ^ 64) × (rank.0 < 2 ^ 32)
-FitsFields (Gone id) = id < 2 ^ 64
-FitsFields (Edge number key target audience until) = (is_word key ≡ true) × (target < 2 ^ 64) × HasWord audience
-FitsFields (Cut number key target) = (is_word key ≡ true) × (target < 2 ^ 64)
+FitsFields (Entity vertical id rank) = IsIdNumber id × (rank.0 < 2 ^ 32)
+FitsFields (Gone id) = IsIdNumber id
+FitsFields (Edge number key target audience until) = (is_word key ≡ true) × IsIdNumber target × HasWord audience
+FitsFields (Cut number key target) = (is_word key ≡ true) × IsIdNumber target
 
 abbrev pub LineFits : FeedLine → Type 0
 LineFits (Change command) = FitsFields command

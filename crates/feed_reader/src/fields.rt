@@ -2,9 +2,8 @@ ghost use Rattle.std.specs.Prelude.{◌≡◌, ◌≢◌, ◌↔◌, ◌≤◌, 
 ghost use Rattle.std.specs.List.{take_while};
 ghost use Rattle.uni_base.specs.Fields.{fields_of};
 ghost use Rattle.uni_base.specs.Numbers.{id_of, number_between};
-ghost use Rattle.uni_base.specs.Words.{is_word, is_word_byte};
+ghost use Rattle.uni_base.specs.Words.{is_word, is_word_byte, is_name};
 ghost use Rattle.uni_schema.specs.Lines.{name_of};
-ghost use Rattle.uni_schema.specs.Schema.{is_name};
 ghost use Rattle.feed_reader.specs.Fields.{HasTaken, HasTakenFront, TakesAs, TakesFrontAs, begins_with, first_as, front_as, goes_on, in_front, is_first, is_solid};
 ghost use Rattle.feed_reader.specs.Reading.{word_of};
 ghost use Rattle.feed_reader.specs.declared.fault.LineFault.TheVariants.{BadLine};

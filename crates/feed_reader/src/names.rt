@@ -1,7 +1,8 @@
 ghost use Rattle.std.specs.Prelude.{◌≡◌, ◌<◌, true, Some, None, Ok, Err, length, IfOk, IfSome, MatchOption};
 ghost use Rattle.feed_reader.specs.Fields.{TakesAs, TakesFrontAs, number_by};
 ghost use Rattle.feed_reader.specs.Names.{AreOf, IsFoundBy, IsLast, IsLastBefore};
-ghost use Rattle.uni_schema.specs.Schema.{Declarations, is_name, vertical_no, type_no};
+ghost use Rattle.uni_base.specs.Words.{is_name};
+ghost use Rattle.uni_schema.specs.Schema.{Declarations, vertical_no, type_no};
 
 use crate::LineFault;
 use crate::fields::LineFields;

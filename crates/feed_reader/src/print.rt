@@ -1,6 +1,6 @@
 ghost use Rattle.std.specs.Prelude.{◌≡◌, ◌++◌, ◌∷◌, Ok, OnOk, IfOk};
 ghost use Rattle.std.specs.Fmt.{decimal};
-ghost use Rattle.feed_reader.specs.Printing.{FitsFields, HasIds, HasUntil, HasWord, LineFits, LineIsDeclared, audience_written, command_written, line_text, until_of};
+ghost use Rattle.feed_reader.specs.Printing.{FitsFields, HasUntil, HasWord, LineFits, LineIsDeclared, audience_written, command_written, line_text, until_of};
 ghost use Rattle.feed_reader.specs.FeedText.{audience_text, until_fields, written_text};
 ghost use Rattle.feed_reader.specs.Parts.{with_spaces};
 ghost use Rattle.feed_reader.specs.Reading.{feed_line_of};
@@ -19,8 +19,7 @@ pub fn print_feed_line(alloc: Global, schema: &Schema, line: &FeedLine) -> Resul
     requires declared { LineIsDeclared schema.now line.now }
     requires until { HasUntil schema.now line.now }
     ensures text { IfOk result (λ text. text ≡ line_text schema.now line.now) }
-    ensures again { HasIds line.now
-        → IfOk result (λ text. feed_line_of schema.now text ≡ Ok line.now) }
+    ensures again { IfOk result (λ text. feed_line_of schema.now text ≡ Ok line.now) }
 {
     // Every schema tells its names apart, so that the text names what the line does.
     let _format = schema.format();

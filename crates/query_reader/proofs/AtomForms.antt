@@ -8,7 +8,7 @@ use Rattle.std.specs.Str.Parse.{digits_value}
 use Rattle.std.proofs.lemmas.Bool.Decides.{nat_tests, leb_tells}
 use Rattle.std.proofs.lemmas.List.Folds.{list_all-append}
 use Rattle.std.proofs.lemmas.Fmt.{decimal_is_IsNumeral, decimal_by_steps, decimal_digit, decimal_nonempty, first_decimal, length-decimal-le}
-use Rattle.uni_base.specs.Words.{is_digit, is_word_byte, is_word, starts_with_letter}
+use Rattle.uni_base.specs.Words.{is_digit, is_word_byte, is_word, starts_with_letter, is_name}
 use Rattle.std.specs.Option.{option_and_then, option_map, option_or}
 use Rattle.uni_base.specs.Numbers.{is_number, number_of, number_between, starts_with_zero}
 use Rattle.uni_base.specs.Fields.{cut_at}
@@ -19,7 +19,7 @@ use Rattle.query_tree.specs.Within.{IsTypeName, IsKeyText, MayBegin}
 use Rattle.query_tree.specs.Text.{key_text, pair_text}
 use Rattle.query_reader.specs.declared.token.TokenKind.{TokenKind}
 use Rattle.query_reader.specs.declared.token.TokenKind.TheVariants as kinds
-use Rattle.query_reader.specs.Atoms.{is_name, is_empty, before_star, starred_word, key_kind, pair_kind, colon_kind, slash_kind, atom_kind}
+use Rattle.query_reader.specs.Atoms.{is_empty, before_star, starred_word, key_kind, pair_kind, colon_kind, slash_kind, atom_kind}
 use Rattle.query_reader.specs.Tokens.{is_atom_byte}
 use Rattle.query_reader.specs.Values.{hits_of, weight_over, weight_between, weight_of}
 use Rattle.query_reader.specs.Reading.{key_of, both_words, pair_of, front_word, prefix_of}

@@ -6,7 +6,7 @@ use Rattle.std.specs.List.{list_all}
 use Rattle.std.proofs.lemmas.List.Folds.{list_all-append}
 use Rattle.std.specs.Option.{option_map, option_or}
 use Rattle.uni_base.specs.declared.limits.Limits.{Limits}
-use Rattle.uni_base.specs.Words.{is_digit, is_word}
+use Rattle.uni_base.specs.Words.{is_digit, is_word, is_name}
 use Rattle.uni_base.specs.Numbers.{is_number, starts_with_zero}
 use Rattle.uni_base.specs.Fields.{cut_at}
 use Rattle.query_tree.specs.Dialects.{dialect_of}
@@ -20,7 +20,7 @@ use Rattle.query_tree.specs.Within.{IsOperandCount}
 use Rattle.query_reader.specs.declared.token.Token.{Token}
 use Rattle.query_reader.specs.declared.token.TokenKind.{TokenKind}
 use Rattle.query_reader.specs.declared.token.TokenKind.TheVariants as kinds
-use Rattle.query_reader.specs.Atoms.{is_name, is_empty, starred_word, pair_kind, colon_kind, slash_kind, atom_kind}
+use Rattle.query_reader.specs.Atoms.{is_empty, starred_word, pair_kind, colon_kind, slash_kind, atom_kind}
 use Rattle.query_reader.specs.Spans.{AreSpaces, IsToken, a_left, a_right, an_atom, HasTokens}
 use Rattle.query_reader.specs.Reading.{Lexeme}
 use Rattle.query_reader.specs.Grammar.{LimitSpells, OptionsSpell, Enclosed, NodeSpells, ForestSpells}

@@ -7,7 +7,7 @@ use Rattle.std.proofs.Math.Seq.{drop-append_seam, take-append_seam}
 use Rattle.query_tree.specs.declared.dialect.Dialect.{Dialect}
 use Rattle.query_tree.specs.declared.kind.TermKind.{TermKind}
 use Rattle.query_tree.specs.declared.kind.TermKind.TheVariants as terms
-use Rattle.uni_base.specs.Words.{is_word, starts_with_letter}
+use Rattle.uni_base.specs.Words.{is_word, starts_with_letter, is_name}
 use Rattle.std.specs.Option.{option_and_then, option_map, option_or}
 use Rattle.uni_base.specs.Numbers.{is_number, number_of, number_between}
 use Rattle.uni_base.specs.Fields.{cut_at}
@@ -23,7 +23,7 @@ use Rattle.query_tree.specs.Within.{IsTypeName, IsKeyText, MayBegin, IsJoinLimit
 use Rattle.query_reader.specs.declared.token.Token.{Token}
 use Rattle.query_reader.specs.declared.token.TokenKind.{TokenKind}
 use Rattle.query_reader.specs.declared.token.TokenKind.TheVariants as kinds
-use Rattle.query_reader.specs.Atoms.{is_name, is_empty, before_star, starred_word, colon_kind, slash_kind}
+use Rattle.query_reader.specs.Atoms.{is_empty, before_star, starred_word, colon_kind, slash_kind}
 use Rattle.query_reader.specs.Tokens.{kind_of}
 use Rattle.query_reader.specs.Spans.{IsToken, a_left, a_right, an_atom, AreSpaces, HasTokens}
 use Rattle.query_reader.specs.Values.{weight_over, weight_between}

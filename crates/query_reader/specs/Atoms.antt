@@ -1,15 +1,11 @@
 -- The forms of atoms.
 use Rattle.std.specs.Prelude.{ℕ, Bool, ◌&&◌, ◌==◌, List, [], ◌∷◌, Option, Some, None, is_some, if◌then◌else◌}
 use Rattle.std.specs.Option.{option_and_then, option_or}
-use Rattle.uni_base.specs.Words.{is_word, starts_with_letter}
+use Rattle.uni_base.specs.Words.{is_word, is_name}
 use Rattle.uni_base.specs.Numbers.{is_number}
 use Rattle.uni_base.specs.Fields.{cut_at}
 use Rattle.query_reader.specs.declared.token.TokenKind.{TokenKind}
 use Rattle.query_reader.specs.declared.token.TokenKind.TheVariants as kinds
-
--- a name is a word that begins with a letter
-abbrev pub is_name : List ℕ → Bool
-is_name text = is_word text && starts_with_letter text
 
 abbrev pub is_empty : List ℕ → Bool
 is_empty [] = Bool.true

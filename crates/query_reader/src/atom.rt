@@ -1,6 +1,7 @@
 ghost use Rattle.std.specs.Prelude.{◌≡◌};
 ghost use Rattle.uni_base.specs.Numbers.{is_number};
-ghost use Rattle.query_reader.specs.Atoms.{atom_kind, is_name, key_kind, pair_kind, starred_word};
+ghost use Rattle.uni_base.specs.Words.{is_name};
+ghost use Rattle.query_reader.specs.Atoms.{atom_kind, key_kind, pair_kind, starred_word};
 
 use crate::token::TokenKind;
 use uni_base::{Word, cut_at, read_number};

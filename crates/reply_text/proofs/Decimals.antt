@@ -1,4 +1,4 @@
--- The text of a number: digits alone, and that of no other number where one of them is below 2 ^ 64.
+-- The text of a number is that of no other number where one of them is below 2 ^ 64.
 use Rattle.std.proofs.Common.{◌≡◌, ℕ, zero, suc, ◌+◌, ◌/◌, ◌%◌, ◌^◌, ◌<◌, ◌≤◌, ◌⊎◌, inl, inr, true, false, ◌&&◌, ◌==◌, if◌then◌else◌, List, [], ◌∷◌, length, refl, sym, ◌∙◌, ap, arith}
 use Rattle.std.proofs.Math.Nat.{pow-suc}
 use Rattle.std.proofs.lemmas.Bool.Decides.{nat_tests}
@@ -7,23 +7,6 @@ use Rattle.std.specs.Fmt.{decimal, digits, digits_onto, digit_glyph}
 use Rattle.std.specs.List.{list_all}
 use Rattle.std.specs.Str.Parse.{digits_value}
 use Rattle.uni_base.specs.Words.{is_digit}
-
-glyph-digit : (d : ℕ) → d < 10 → is_digit (digit_glyph false d) ≡ true
-glyph-digit d small = grind (arith, nat_tests)
-
-all_digits-onto : (k n : ℕ) (acc : List ℕ) → list_all is_digit acc ≡ true → list_all is_digit (digits_onto k 10 false n acc) ≡ true
-all_digits-onto zero n acc all = all
-all_digits-onto (suc k) n acc all =
-    let here : is_digit (digit_glyph false (n % 10)) ≡ true = glyph-digit (n % 10) (omega arith) in
-    let more : list_all is_digit (digit_glyph false (n % 10) ∷ acc) ≡ true = ap (λ b. b && list_all is_digit acc) here ∙ all in
-    elim (n / 10 == 0) as (λ b. list_all is_digit (if b then digit_glyph false (n % 10) ∷ acc else digits_onto k 10 false (n / 10) (digit_glyph false (n % 10) ∷ acc)) ≡ true) [
-      | true ↦ more
-      | false ↦ all_digits-onto k (n / 10) (digit_glyph false (n % 10) ∷ acc) more
-    ]
-
-pub all_digits-decimal : (n : ℕ) → list_all is_digit (decimal n) ≡ true
-unfolding digits
-all_digits-decimal n = all_digits-onto 64 n [] refl
 
 power_pos : (k : ℕ) → 0 < 10 ^ k
 power_pos zero = omega arith

@@ -6,12 +6,13 @@ use Rattle.std.proofs.lemmas.List.Folds.{list_any-append}
 use Rattle.std.specs.List.{list_all, list_any}
 use Rattle.std.specs.Option.{option_map_or}
 use Rattle.uni_base.specs.Fields.{same}
-use Rattle.uni_base.specs.Words.{is_word, is_word_byte}
-use Rattle.uni_schema.specs.Schema.{Declarations, IsSchema, is_name, is_vertical_name, are_fresh, vertical_names, type_names}
+use Rattle.uni_base.proofs.LineLaws.{unbroken-name}
+use Rattle.uni_base.specs.Words.{is_word, is_word_byte, is_name}
+use Rattle.uni_schema.specs.Schema.{Declarations, IsSchema, is_vertical_name, are_fresh, vertical_names, type_names}
 use Rattle.uni_schema.specs.Print.{vertical_name}
 use Rattle.uni_schema.specs.declared.schema.VerticalDef.{VerticalDef}
 use Rattle.uni_schema.specs.declared.schema.TypeDef.{TypeDef}
-use Rattle.reply_text.specs.Lines.{has_lf}
+use Rattle.uni_base.specs.Lines.{has_lf}
 use Rattle.reply_text.specs.Printed.{type_name}
 
 -- a text without a space
@@ -25,18 +26,8 @@ all_pass test weaker so (x ∷ xs) all =
     let parts = and_parts (test x) (list_all test xs) all in
     and_from (weaker x) (list_all weaker xs) (so x parts.0) (all_pass test weaker so xs parts.1)
 
--- a test that no element passes
-pub none_passes : {X : Type 0} (test other : X → Bool) → ((x : X) → test x ≡ true → other x ≡ false) → (xs : List X) → list_all test xs ≡ true → list_any other xs ≡ false
-none_passes test other so [] all = refl
-none_passes test other so (x ∷ xs) all =
-    let parts = and_parts (test x) (list_all test xs) all in
-    rw (so x parts.0) (none_passes test other so xs parts.1)
-
 solid_byte : (c : ℕ) → is_word_byte c ≡ true → not (c == 32) ≡ true
 solid_byte c word = grind (arith, nat_tests)
-
-unbroken_byte : (c : ℕ) → is_word_byte c ≡ true → (c == 10) ≡ false
-unbroken_byte c word = grind (arith, nat_tests)
 
 bytes_of_name : (name : List ℕ) → is_name name ≡ true → list_all is_word_byte name ≡ true
 bytes_of_name name named =
@@ -47,7 +38,7 @@ solid_name : (name : List ℕ) → is_vertical_name name ≡ true → is_solid n
 solid_name name named = all_pass is_word_byte (λ c. not (c == 32)) solid_byte name (bytes_of_name name (and_parts (is_name name) _ named).0)
 
 unbroken_name : (name : List ℕ) → is_name name ≡ true → not (has_lf name) ≡ true
-unbroken_name name named = ap not (none_passes is_word_byte (λ c. c == 10) unbroken_byte name (bytes_of_name name named))
+unbroken_name name named = ap not (unbroken-name name named)
 
 unbroken_vertical : (name : List ℕ) → is_vertical_name name ≡ true → not (has_lf name) ≡ true
 unbroken_vertical name named = unbroken_name name (and_parts (is_name name) _ named).0

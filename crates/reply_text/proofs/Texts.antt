@@ -2,7 +2,8 @@
 use Rattle.std.proofs.Common.{◌≡◌, ℕ, ◌==◌, true, false, List, [], ◌∷◌, ◌++◌, refl, sym, ◌∙◌, append_assoc}
 use Rattle.std.proofs.lemmas.Bool.{or_parts, eq-eqb}
 use Rattle.std.specs.List.{list_any}
-use Rattle.reply_text.specs.Lines.{text_of, has_lf, AreUnbroken}
+use Rattle.uni_base.specs.Lines.{has_lf, AreUnbroken}
+use Rattle.reply_text.specs.Lines.{text_of}
 
 -- equal lists have equal parts
 pub cons_parts : {X : Type 0} (x y : X) (xs ys : List X) → x ∷ xs ≡ y ∷ ys → (x ≡ y) × (xs ≡ ys)

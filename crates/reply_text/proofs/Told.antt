@@ -15,9 +15,10 @@ use Rattle.reply_text.specs.FirstWords.{first_words, head_words}
 use Rattle.reply_text.specs.Heads.{Head, published, replied, compacted, counted, refused, fault, query_fault, lacking, tidied, untidied, head_of, head_fields, head_line}
 use Rattle.reply_text.specs.Laws.{is_head_line, numbers_of, HeadsByText}
 use Rattle.reply_text.specs.Printed.{lines_of_answers, AnswerIsDeclared}
-use Rattle.reply_text.proofs.Decimals.{all_digits-decimal, decimal_tells}
+use Rattle.reply_text.proofs.Decimals.{decimal_tells}
 use Rattle.reply_text.proofs.Leading.{heads_kept}
 use Rattle.reply_text.proofs.Names.{is_solid, all_pass, solid-vertical, vertical_told}
+use Rattle.uni_base.proofs.LineLaws.{all_digits-decimal}
 use Rattle.reply_text.proofs.Texts.{cons_parts, same_lines}
 
 digit-solid : (c : ℕ) → is_digit c ≡ true → not (c == 32) ≡ true

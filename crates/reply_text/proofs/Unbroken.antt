@@ -19,27 +19,10 @@ use Rattle.reply_text.specs.declared.answer.StackRow.{StackRow}
 use Rattle.reply_text.specs.FirstWords.{first_words}
 use Rattle.reply_text.specs.Heads.{Head, published, replied, compacted, counted, refused, fault, query_fault, lacking, tidied, untidied, head_of, head_fields}
 use Rattle.reply_text.specs.Laws.{word_of, words_of_hit, words_of, LinesAreUnbroken}
-use Rattle.reply_text.specs.Lines.{has_lf, AreUnbroken}
+use Rattle.uni_base.specs.Lines.{has_lf, AreUnbroken}
 use Rattle.reply_text.specs.Printed.{type_name, key_text, edge_text, edges_text, hit_line, stack_line, further_lines, answer_lines}
-use Rattle.reply_text.proofs.Decimals.{all_digits-decimal}
-use Rattle.reply_text.proofs.Names.{none_passes, unbroken-vertical, unbroken-type}
-
-digit-unbroken : (c : ℕ) → is_digit c ≡ true → (c == 10) ≡ false
-digit-unbroken c digit = grind (arith, nat_tests)
-
-unbroken-decimal : (n : ℕ) → has_lf (decimal n) ≡ false
-unbroken-decimal n = none_passes is_digit (λ c. c == 10) digit-unbroken (decimal n) (all_digits-decimal n)
-
--- one list after another
-joined : {X : Type 0} (test : X → Bool) (xs ys : List X) → list_any test xs ≡ false → list_any test ys ≡ false → list_any test (xs ++ ys) ≡ false
-joined test xs ys a b = list_any-append test xs ys ∙ ap (λ t. t || list_any test ys) a ∙ b
-
-unbroken-spaced : (fields : List (List ℕ)) → AreUnbroken fields → has_lf (spaced fields) ≡ false
-unbroken-spaced [] unbroken = refl
-unbroken-spaced (field ∷ []) unbroken = (or_parts (has_lf field) false unbroken).0
-unbroken-spaced (field ∷ more ∷ fields) unbroken =
-    let parts = or_parts (has_lf field) (list_any has_lf (more ∷ fields)) unbroken in
-    joined (λ b. b == 10) field (32 ∷ spaced (more ∷ fields)) parts.0 (unbroken-spaced (more ∷ fields) parts.1)
+use Rattle.uni_base.proofs.LineLaws.{none_joined, unbroken-decimal, unbroken-spaced}
+use Rattle.reply_text.proofs.Names.{unbroken-vertical, unbroken-type}
 
 -- what is made of each element, where a part of it is unbroken
 all_joined : {X Y Z : Type 0} (test : Y → Bool) (other : Z → Bool) (of : X → List Y) (from : X → List Z) → ((x : X) → list_any other (from x) ≡ false → list_any test (of x) ≡ false)
@@ -47,7 +30,7 @@ all_joined : {X Y Z : Type 0} (test : Y → Bool) (other : Z → Bool) (of : X �
 all_joined test other of from so [] none = refl
 all_joined test other of from so (x ∷ xs) none =
     let parts = or_parts (list_any other (from x)) (list_any other (flat_map from xs)) (sym (list_any-append other (from x) (flat_map from xs)) ∙ none) in
-    joined test (of x) (flat_map of xs) (so x parts.0) (all_joined test other of from so xs parts.1)
+    none_joined test (of x) (flat_map of xs) (so x parts.0) (all_joined test other of from so xs parts.1)
 
 module _ (schema : Declarations) (is : IsSchema schema) where
   unbroken-key : (key : Key) → AreUnbroken (word_of key) → has_lf (key_text key) ≡ false
@@ -56,14 +39,14 @@ module _ (schema : Declarations) (is : IsSchema schema) where
 
   unbroken-edge : (edge : EdgeRef) → AreUnbroken (word_of edge.key) → has_lf (codes " " ++ edge_text schema edge) ≡ false
   unbroken-edge edge none =
-      joined (λ b. b == 10) (type_name schema edge.type_no) (codes ":" ++ (key_text edge.key ++ (codes ">" ++ decimal edge.target))) (unbroken-type schema is edge.type_no)
-      (joined (λ b. b == 10) (key_text edge.key) (codes ">" ++ decimal edge.target) (unbroken-key edge.key none) (unbroken-decimal edge.target))
+      none_joined (λ b. b == 10) (type_name schema edge.type_no) (codes ":" ++ (key_text edge.key ++ (codes ">" ++ decimal edge.target))) (unbroken-type schema is edge.type_no)
+      (none_joined (λ b. b == 10) (key_text edge.key) (codes ">" ++ decimal edge.target) (unbroken-key edge.key none) (unbroken-decimal edge.target))
 
   unbroken-hit : (hit : Hit) → AreUnbroken (words_of_hit hit) → has_lf (hit_line schema hit) ≡ false
   unbroken-hit hit none =
-      joined (λ b. b == 10) (spaced (first_words.hit ∷ decimal hit.key.id ∷ codes "via" ∷ [])) (edges_text schema hit.lineage)
+      none_joined (λ b. b == 10) (spaced (first_words.hit ∷ decimal hit.key.id ∷ codes "via" ∷ [])) (edges_text schema hit.lineage)
       (unbroken-spaced (first_words.hit ∷ decimal hit.key.id ∷ codes "via" ∷ []) (rw (unbroken-decimal hit.key.id) refl))
-      (all_joined (λ b. b == 10) has_lf (λ edge. codes " " ++ edge_text schema edge) (λ (edge : EdgeRef). word_of edge.key) unbroken-edge hit.lineage none)
+      (all_none_joined (λ b. b == 10) has_lf (λ edge. codes " " ++ edge_text schema edge) (λ (edge : EdgeRef). word_of edge.key) unbroken-edge hit.lineage none)
 
   unbroken-hits : (hits : List Hit) → AreUnbroken (flat_map words_of_hit hits) → AreUnbroken (map (hit_line schema) hits)
   unbroken-hits [] none = refl

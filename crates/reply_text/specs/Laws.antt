@@ -10,7 +10,7 @@ use Rattle.reply_text.specs.declared.answer.Answer.{Answer}
 use Rattle.reply_text.specs.declared.answer.Answer.TheVariants.{Reply}
 use Rattle.reply_text.specs.FirstWords.{head_words}
 use Rattle.reply_text.specs.Heads.{Head, published, replied, compacted, counted, refused, fault, query_fault, lacking, tidied, untidied, head_of, head_line}
-use Rattle.reply_text.specs.Lines.{AreUnbroken}
+use Rattle.uni_base.specs.Lines.{AreUnbroken}
 use Rattle.reply_text.specs.Printed.{first_word, answer_lines, lines_of_answers, answers_text, AnswerIsDeclared}
 
 -- whether a line begins with a word of the first lines of answers

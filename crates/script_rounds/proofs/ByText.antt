@@ -10,10 +10,9 @@ use Rattle.std.proofs.lemmas.Bool.Decides.{nat_tests}
 use Rattle.uni_base.proofs.FieldLemmas.{spaced-fields_of, fields_of-spaced}
 use Rattle.uni_base.specs.Fields.{cut_at, fields_of, spaced}
 use Rattle.uni_base.specs.Numbers.{number_of, is_number, starts_with_zero}
-use Rattle.uni_base.specs.Words.{is_digit}
+use Rattle.uni_base.specs.Words.{is_digit, is_name}
 use Rattle.feed_reader.proofs.Parts.{name_given, name_read, name_solid}
 use Rattle.uni_schema.specs.Lines.{name_of}
-use Rattle.uni_schema.specs.Schema.{is_name}
 use Rattle.script_rounds.specs.declared.compact.WrittenStack.{WrittenStack}
 use Rattle.script_rounds.specs.Asks.{first_field}
 use Rattle.script_rounds.specs.Compacts.{stack_of}

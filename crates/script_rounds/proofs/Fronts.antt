@@ -4,15 +4,10 @@ use Rattle.std.proofs.Common.{◌≡◌, ℕ, ◌+◌, ◌<◌, ◌≤◌, ◌==
 use Rattle.std.specs.Prelude.{slice_get}
 use Rattle.std.proofs.lemmas.Option.{slice_get_within}
 use Rattle.std.proofs.lemmas.List.{append_assoc, take_all, drop_all, length-drop, take-append-drop}
-use Rattle.script_rounds.specs.Lines.{lines_of, whole_lines, onto_first, has_lf, lines_so_far, cut}
+use Rattle.script_rounds.specs.Lines.{whole_lines, lines_so_far, cut}
+use Rattle.uni_base.specs.Lines.{lines_of, onto_first, has_lf}
+use Rattle.uni_base.proofs.LineLaws.{lines_of-line}
 use Rattle.script_rounds.specs.Reading.{LineState, IsFront}
-
--- a line that its LF ends
-pub lines_of-line : (line rest : List ℕ) → has_lf line ≡ false → lines_of (line ++ 10 ∷ rest) ≡ line ∷ lines_of rest
-lines_of-line [] rest unbroken = refl
-lines_of-line (b ∷ line) rest unbroken =
-    let parts = or_parts (b == 10) (has_lf line) unbroken in
-    rw (parts.0, lines_of-line line rest parts.1) refl
 
 -- a last line without LF
 pub lines_of-last : (bytes : List ℕ) → has_lf bytes ≡ false → 0 < length bytes → lines_of bytes ≡ bytes ∷ []

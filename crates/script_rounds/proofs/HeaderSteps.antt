@@ -13,10 +13,11 @@ use Rattle.uni_schema.specs.declared.refusal.SchemaRefusal.{SchemaRefusal}
 use Rattle.uni_schema.specs.declared.refusal.SchemaRefusal.TheVariants.{NoBegin, Memory}
 use Rattle.script_rounds.specs.declared.lines.ScriptRefusal.{ScriptRefusal}
 use Rattle.script_rounds.specs.Headers.{TookHeader, FaultyHeader, BrokenHeader}
-use Rattle.script_rounds.specs.Lines.{lines_of, lines_so_far, cut}
+use Rattle.script_rounds.specs.Lines.{lines_so_far, cut}
 use Rattle.script_rounds.specs.Reading.{LineState, Place, at, Went, IsFront, IsSpent, Stopped, to_come}
 use Rattle.script_rounds.proofs.Fronts.{lines_of-front, so_far-front}
 use Rattle.script_rounds.proofs.ReadSteps.{went_front, went_more, went_nothing}
+use Rattle.uni_base.specs.Lines.{lines_of}
 use Rattle.script_rounds.proofs.RoleSteps.{cases_short, is_skipped-take}
 
 -- of a header line it is enough to see that it is too long

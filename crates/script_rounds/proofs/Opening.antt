@@ -13,7 +13,7 @@ use Rattle.script_rounds.specs.declared.lines.ScriptRefusal.{ScriptRefusal}
 use Rattle.script_rounds.specs.declared.lines.ScriptRefusal.TheVariants.{ReadFault, TooLong, Memory}
 use Rattle.script_rounds.specs.Entries.{Entry}
 use Rattle.script_rounds.specs.Headers.{HeaderFaults, TookHeader, FaultyHeader, BrokenHeader}
-use Rattle.script_rounds.specs.Lines.{lines_of, whole_lines, lines_so_far, cut}
+use Rattle.script_rounds.specs.Lines.{whole_lines, lines_so_far, cut}
 use Rattle.script_rounds.specs.Reading.{LineState, Place, at, Gave, Went, IsOut, StopsBy, to_come}
 use Rattle.script_rounds.specs.Rounds.{opened, rounds_from, closed_from, script_by, script_of, closed_script_of}
 use Rattle.script_rounds.specs.RoundsState.{RoundsState, Opened, HeaderRefused, HeaderStopped, IsUnfinished, OpenRefused}
@@ -21,6 +21,7 @@ use Rattle.script_rounds.specs.Terms.{Terms, under}
 use Rattle.script_rounds.proofs.HeaderSteps.{goes-longest, step-cut}
 use Rattle.script_rounds.proofs.ReadSteps.{gave-append, lines_went}
 use Rattle.script_rounds.proofs.RoundSteps.{rounds_from-cut, closed_from-cut}
+use Rattle.uni_base.specs.Lines.{lines_of}
 use Rattle.script_rounds.proofs.Whole.{whole_come, whole_lines-unbroken}
 
 -- an opening, of whose further lines no more than so many bytes are kept

@@ -1,8 +1,9 @@
 -- From what a read says to what reading takes.
 use Rattle.std.proofs.Common.{◌≡◌, ◌+◌, ◌<◌, true, false, ℕ, List, [], ◌∷◌, ◌++◌, length, take, drop, Option, None, Some, sym, ◌∙◌, ap, subst, refl, arith, add-one, length-append}
 use Rattle.std.proofs.lemmas.List.{append_assoc, length-take, length-map}
-use Rattle.script_rounds.specs.Lines.{has_lf, lines_of, cut}
+use Rattle.script_rounds.specs.Lines.{cut}
 use Rattle.script_rounds.specs.Reading.{Gave, NoneLeft, LineState, Place, at, Went, IsFront, IsOut, IsPast, to_come}
+use Rattle.uni_base.specs.Lines.{has_lf, lines_of}
 use Rattle.script_rounds.proofs.Fronts.{cut-shortened, lines_of-front, length-front}
 
 -- nothing

@@ -5,7 +5,7 @@ use Rattle.script_rounds.specs.declared.item.Item.{Item}
 use Rattle.script_rounds.specs.declared.lines.ScriptRefusal.{ScriptRefusal}
 use Rattle.script_rounds.specs.declared.lines.ScriptRefusal.TheVariants.{ReadFault, TooLong, Memory}
 use Rattle.script_rounds.specs.Entries.{Entry, AreItemsOf}
-use Rattle.script_rounds.specs.Lines.{lines_of, whole_lines, cut}
+use Rattle.script_rounds.specs.Lines.{whole_lines, cut}
 use Rattle.script_rounds.specs.Reading.{LineState, Place, at, Went, IsSpent, IsOut, StopsBy}
 use Rattle.script_rounds.specs.Roles.{is_go}
 use Rattle.script_rounds.specs.Rounds.{rounds_from, closed_from, entries_from}
@@ -15,6 +15,7 @@ use Rattle.script_rounds.specs.Terms.{Terms}
 use Rattle.script_rounds.proofs.Numbering.{entries_rise, entries-few, item_lines}
 use Rattle.script_rounds.proofs.ReadSteps.{gave-append, lines_went}
 use Rattle.script_rounds.proofs.RoundLoop.{items-length}
+use Rattle.uni_base.specs.Lines.{lines_of}
 use Rattle.script_rounds.proofs.Whole.{whole_come, whole_lines-unbroken, rounds_go, rounds_last, rounds_none, closed_go, closed_none}
 
 abbrev took : (before after : RoundsState) (left_before left_after : Option (List ℕ)) (passed : List (List ℕ)) → after.terms ≡ before.terms

@@ -4,11 +4,12 @@ use Rattle.std.specs.Prelude.{if◌then◌else◌, count_by}
 use Rattle.std.specs.List.{list_any}
 use Rattle.std.proofs.lemmas.Bool.{or_parts}
 use Rattle.std.proofs.lemmas.List.{append_assoc, map-append}
-use Rattle.script_rounds.specs.Lines.{lines_of, whole_lines, onto_first, onto_whole, has_lf, cut}
+use Rattle.script_rounds.specs.Lines.{whole_lines, onto_whole, cut}
 use Rattle.script_rounds.specs.Reading.{Place, Went}
 use Rattle.script_rounds.specs.Roles.{is_go}
 use Rattle.script_rounds.specs.Rounds.{rounds_from, closed_from, entries_from}
 use Rattle.script_rounds.specs.Terms.{Terms}
+use Rattle.uni_base.specs.Lines.{lines_of, onto_first, has_lf}
 use Rattle.script_rounds.proofs.RoundSteps.{rounds_from-go, rounds_from-last, rounds_from-cut, closed_from-cut, count_by-clear, count_by-go}
 
 -- bytes without LF have no whole line

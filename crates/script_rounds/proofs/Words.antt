@@ -5,8 +5,8 @@ use Rattle.std.specs.List.{list_all, list_any}
 use Rattle.std.specs.Option.{option_map, option_and_then}
 use Rattle.std.proofs.lemmas.Bool.{and_parts}
 use Rattle.std.proofs.lemmas.Bool.Decides.{nat_tests}
-use Rattle.uni_base.specs.Words.{is_word, is_word_byte}
-use Rattle.uni_schema.specs.Schema.{Declarations, is_name, is_vertical_name, vertical_no, type_no, vertical_names, type_names}
+use Rattle.uni_base.specs.Words.{is_word, is_word_byte, is_name}
+use Rattle.uni_schema.specs.Schema.{Declarations, is_vertical_name, vertical_no, type_no, vertical_names, type_names}
 use Rattle.uni_table.specs.declared.command.AudienceText.{AudienceText}
 use Rattle.uni_table.specs.declared.command.AudienceText.TheVariants.{Public, Only, Circle}
 use Rattle.uni_table.specs.declared.command.Command.{Command}
@@ -15,22 +15,9 @@ use Rattle.feed_reader.specs.FeedText.{WrittenAudience, public_audience, only_au
 use Rattle.feed_reader.specs.Reading.{LinesByText}
 use Rattle.feed_reader.specs.declared.line.FeedLine.TheVariants.{Change}
 use Rattle.script_rounds.specs.Laws.{WordsAreUnbroken, audience_words, words_of}
-use Rattle.script_rounds.specs.Lines.{has_lf}
+use Rattle.uni_base.specs.Lines.{has_lf}
+use Rattle.uni_base.proofs.LineLaws.{unbroken-word}
 use Rattle.script_rounds.proofs.Numbering.{change_is_read}
-
--- bytes of words are no LF
-unbroken-bytes : (bytes : List ℕ) → list_all is_word_byte bytes ≡ true → has_lf bytes ≡ false
-unbroken-bytes [] all = refl
-unbroken-bytes (c ∷ bytes) all =
-    let parts = and_parts (is_word_byte c) (list_all is_word_byte bytes) all in
-    let here : (c == 10) ≡ false = no_lf c parts.0 in
-    rw (here, unbroken-bytes bytes parts.1) refl
-  where
-    no_lf : (c : ℕ) → is_word_byte c ≡ true → (c == 10) ≡ false
-    no_lf c word = grind (arith, nat_tests)
-
-pub unbroken-word : (text : List ℕ) → is_word text ≡ true → has_lf text ≡ false
-unbroken-word text word = unbroken-bytes text (and_parts (nat_le 1 (length text) && nat_le (length text) 32) (list_all is_word_byte text) word).1
 
 -- names that pass a test of words
 unbroken-names : (test : List ℕ → Bool) → ((name : List ℕ) → test name ≡ true → is_word name ≡ true) → (names : List (List ℕ)) → list_all test names ≡ true → list_any has_lf names ≡ false

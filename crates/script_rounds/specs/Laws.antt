@@ -3,8 +3,8 @@ use Rattle.std.specs.Prelude.{ℕ, Bool, true, false, ◌≡◌, ◌↔◌, ◌=
 use Rattle.std.specs.List.{list_any}
 use Rattle.uni_base.specs.Fields.{fields_of, spaced}
 use Rattle.uni_base.specs.Numbers.{number_of}
-use Rattle.uni_base.specs.Words.{is_word}
-use Rattle.uni_schema.specs.Schema.{Declarations, IsSchema, is_name, vertical_names, type_names}
+use Rattle.uni_base.specs.Words.{is_word, is_name}
+use Rattle.uni_schema.specs.Schema.{Declarations, IsSchema, vertical_names, type_names}
 use Rattle.uni_table.specs.declared.command.AudienceText.{AudienceText}
 use Rattle.uni_table.specs.declared.command.AudienceText.TheVariants.{Public, Only, Circle}
 use Rattle.uni_table.specs.declared.command.Command.{Command}
@@ -13,7 +13,7 @@ use Rattle.script_rounds.specs.declared.compact.WrittenStack.{WrittenStack}
 use Rattle.script_rounds.specs.Asks.{parts_of}
 use Rattle.script_rounds.specs.Compacts.{stack_of}
 use Rattle.script_rounds.specs.Entries.{Entry, line_of, change}
-use Rattle.script_rounds.specs.Lines.{has_lf}
+use Rattle.uni_base.specs.Lines.{has_lf}
 use Rattle.script_rounds.specs.Roles.{counted, role_of}
 use Rattle.script_rounds.specs.Rounds.{rounds_from}
 use Rattle.script_rounds.specs.RoundReads.{Rise}

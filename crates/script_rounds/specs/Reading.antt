@@ -3,7 +3,8 @@ use Rattle.std.specs.Prelude.{ℕ, Bool, true, false, ◌≡◌, ◌<◌, ◌≤
 use Rattle.uni_base.specs.Streams.{Rose}
 use Rattle.script_rounds.specs.declared.lines.ScriptRefusal.{ScriptRefusal}
 use Rattle.script_rounds.specs.declared.lines.ScriptRefusal.TheVariants.{ReadFault, TooLong, Memory}
-use Rattle.script_rounds.specs.Lines.{has_lf, lines_of, cut}
+use Rattle.uni_base.specs.Lines.{has_lf, lines_of}
+use Rattle.script_rounds.specs.Lines.{cut}
 
 -- a source gave these bytes, the first of those that it had left, where it tells them
 abbrev pub Gave : Option (List ℕ) → List ℕ → Option (List ℕ) → Type 0

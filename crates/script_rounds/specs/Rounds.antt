@@ -7,7 +7,8 @@ use Rattle.uni_schema.specs.Header.{refused as header_refused}
 use Rattle.uni_schema.specs.declared.refusal.SchemaRefusal.{SchemaRefusal}
 use Rattle.script_rounds.specs.Entries.{Entry}
 use Rattle.script_rounds.specs.Terms.{Terms, under}
-use Rattle.script_rounds.specs.Lines.{lines_of, whole_lines}
+use Rattle.script_rounds.specs.Lines.{whole_lines}
+use Rattle.uni_base.specs.Lines.{lines_of}
 use Rattle.script_rounds.specs.Roles.{Role, go, skipped, counted, role_of, is_go}
 
 -- how many lines of its round counted, after a line that so many did before: `go` begins another round

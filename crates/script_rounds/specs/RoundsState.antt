@@ -14,10 +14,11 @@ use Rattle.script_rounds.specs.declared.item.Round.{Round}
 use Rattle.script_rounds.specs.declared.lines.ScriptRefusal.{ScriptRefusal}
 use Rattle.script_rounds.specs.declared.lines.ScriptRefusal.TheVariants.{ReadFault, TooLong, Memory}
 use Rattle.script_rounds.specs.Entries.{Entry, AreItemsOf}
-use Rattle.script_rounds.specs.Lines.{lines_of, whole_lines, lines_so_far}
+use Rattle.script_rounds.specs.Lines.{whole_lines, lines_so_far}
 use Rattle.script_rounds.specs.Reading.{LineState, Gave, IsSpent, NoneLeft}
 use Rattle.script_rounds.specs.RoundReads.{Keeps}
 use Rattle.script_rounds.specs.Rounds.{rounds_from, closed_from, script_of, closed_script_of, opened}
+use Rattle.uni_base.specs.Lines.{lines_of}
 use Rattle.script_rounds.specs.Terms.{Terms, under}
 
 -- a reader of lines, what they are read under, and the refusal that was answered, if one was

@@ -2,7 +2,7 @@ ghost use Rattle.std.specs.Prelude.{ℕ, ◌≡◌, ◌==◌, ◌<◌, ◌≤◌
 ghost use Rattle.std.specs.List.{list_any};
 ghost use Rattle.uni_base.specs.Streams.{Rose};
 ghost use Rattle.uni_base.specs.StandardLimits.{IsWithinStandard};
-ghost use Rattle.script_rounds.specs.Lines.{has_lf};
+ghost use Rattle.uni_base.specs.Lines.{has_lf};
 ghost use Rattle.script_rounds.specs.Reading.{at, Went, IsFront, IsSpent, IsPast, Stopped, StopsBy, FaultsFit, ReadsOnce};
 
 use memchr::memchr;

@@ -1,6 +1,7 @@
 pub mod Added
 pub mod Kept
 pub mod LineLists
+pub mod Opened
 pub mod Openings
 pub mod PrintLaws
 pub mod Schemas

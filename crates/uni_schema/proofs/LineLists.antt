@@ -1,12 +1,10 @@
 -- Lines, one after another.
-use Rattle.std.proofs.Common.{◌≡◌, ◌+◌, ℕ, zero, suc, Bool, true, false, List, [], ◌∷◌, ◌++◌, length, map, take, Option, None, Some, slice_get, cond, refl, ap, sym, ◌∙◌, append_assoc, append-nil, add-one, arith}
+use Rattle.std.proofs.Common.{◌≡◌, ◌+◌, ℕ, zero, suc, Bool, true, false, List, [], ◌∷◌, ◌++◌, map, take, Some, slice_get, cond, refl, ap, sym, ◌∙◌, append_assoc, add-one}
 use Rattle.std.proofs.lemmas.List.{map-append}
-use Rattle.uni_schema.specs.Print.{lined, deny_line, deny_lines}
+use Rattle.uni_schema.specs.Print.{deny_line, deny_lines}
+use Rattle.uni_base.specs.Lines.{lined}
+use Rattle.uni_base.proofs.LineLaws.{lined-append}
 use Rattle.uni_schema.specs.declared.schema.TypeDef.{TypeDef}
-
-pub lined-append : (xs ys : List (List ℕ)) → lined (xs ++ ys) ≡ lined xs ++ lined ys
-lined-append [] ys = refl
-lined-append (x ∷ xs) ys = ap (λ rest. x ++ 10 ∷ rest) (lined-append xs ys) ∙ sym (append_assoc x (10 ∷ lined xs) (lined ys))
 
 -- one element more, at its place
 take_next : {X : Type 0} (xs : List X) (n : ℕ) (x : X) → slice_get xs n ≡ Some x → take (n + 1) xs ≡ take n xs ++ x ∷ []

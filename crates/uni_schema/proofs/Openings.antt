@@ -1,12 +1,11 @@
 -- What lines unended with, by their texts.
-use Rattle.std.proofs.Common.{◌≡◌, ◌≤◌, ◌<◌, ◌+◌, ℕ, nat_le, Bool, true, false, if◌then◌else◌, List, [], ◌∷◌, ◌++◌, length, Option, None, Some, refl, ap, sym, subst, ◌∙◌, arith, inl, inr, append_assoc, append-nil, length-append, zero-add}
+use Rattle.std.proofs.Common.{◌≡◌, ◌≤◌, ◌+◌, ℕ, nat_le, Bool, true, false, if◌then◌else◌, List, [], ◌∷◌, ◌++◌, length, Option, None, Some, refl, ap, sym, subst, ◌∙◌, arith, inl, inr, append_assoc, append-nil, length-append, zero-add}
 use Rattle.std.proofs.lemmas.Bool.{leb-true, leb-false, le-leb, lt-leb}
 use Rattle.uni_base.specs.Fields.{is_skipped}
 use Rattle.uni_schema.specs.Lines.{declaration_of}
 use Rattle.uni_schema.specs.Rules.{rules}
-use Rattle.uni_schema.specs.Schema.{Declarations}
 use Rattle.uni_schema.specs.Header.{HeaderState, opening, passed, told, Step, goes, refuses, step, step_by, judged, line_of, Opening, opens, refused, after_step, opening_from, opening_of}
-use Rattle.uni_schema.specs.HeaderText.{Says, Leads, stays, skips, tells, Breaks, HeaderSpells, HeaderFault, breaks, lacks, IsOpening, OpensByText}
+use Rattle.uni_schema.specs.HeaderText.{Says, Leads, stays, skips, tells, Breaks, HeaderFault, breaks, lacks, IsOpening, OpensByText}
 use Rattle.uni_schema.specs.declared.line.HeaderLine.{HeaderLine}
 use Rattle.uni_schema.specs.declared.refusal.SchemaRefusal.{SchemaRefusal}
 use Rattle.uni_schema.specs.declared.refusal.SchemaRefusal.TheVariants.{BadLine, NoBegin}

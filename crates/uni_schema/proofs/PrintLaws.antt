@@ -4,20 +4,21 @@ use Rattle.std.specs.Fmt.{decimal, digits}
 use Rattle.std.specs.Option.{option_map, option_map_or, option_and_then}
 use Rattle.std.specs.List.{list_all, list_any, position, prefix_len}
 use Rattle.std.specs.Cmp.Derive.{both_true}
-use Rattle.std.proofs.lemmas.Bool.{and_parts, or_parts, leb-true, leb-false, lt-leb, ltb-false}
+use Rattle.std.proofs.lemmas.Bool.{and_parts, or_parts, leb-true, leb-false, lt-leb}
 use Rattle.std.proofs.lemmas.Bool.Decides.{nat_tests}
 use Rattle.std.proofs.lemmas.List.{map-append}
 use Rattle.std.proofs.lemmas.Option.{slice_get-map}
 use Rattle.uni_base.specs.Fields.{same, spaced}
-use Rattle.uni_base.specs.Words.{is_word, is_word_byte, starts_with_letter}
+use Rattle.uni_base.specs.Words.{is_word, is_word_byte, starts_with_letter, is_name}
+use Rattle.uni_base.specs.Lines.{has_lf, AreUnbroken}
 use Rattle.uni_base.specs.Numbers.{number_of}
-use Rattle.uni_schema.specs.Schema.{Declarations, IsSchema, is_vertical, is_type, is_name, is_vertical_name, are_fresh, vertical_names, type_names, vertical_no, type_no, type_at, denials, denied, denying, starts_below, starts_at_words, is_target_owner, is_index}
-use Rattle.uni_schema.specs.Rules.{is_word_name, refused_if, vertical_rules, type_rules, deny_rules, may_deny, origin_of, type_told, rules, declares}
+use Rattle.uni_base.proofs.LineLaws.{lines_are_read, none_joined, unbroken-name, unbroken-decimal, unbroken-spaced}
+use Rattle.uni_schema.specs.Schema.{Declarations, IsSchema, is_vertical, is_type, is_vertical_name, are_fresh, vertical_names, type_names, vertical_no, type_no, type_at, denials, denied, denying, starts_below, starts_at_words, is_target_owner, is_index}
+use Rattle.uni_schema.specs.Rules.{is_word_name, refused_if, vertical_rules, type_rules, deny_rules, may_deny, origin_of, type_told}
 use Rattle.uni_schema.specs.Header.{HeaderState, opening, told, opens, opening_of}
-use Rattle.uni_schema.specs.HeaderText.{IsNumeralOf, owner_word, store_word, Says, Leads, stays, tells}
+use Rattle.uni_schema.specs.HeaderText.{IsNumeralOf, owner_word, store_word, Leads, stays, tells}
 use Rattle.uni_schema.specs.Print.{format_line, vertical_line, vertical_name, source_name, type_line, deny_line, deny_lines, header_lines, PrintIsRead}
 use Rattle.uni_schema.specs.declared.line.HeaderLine.TheVariants.{Format, Vertical, EdgeType, Deny, Begin}
-use Rattle.uni_schema.specs.declared.refusal.SchemaRefusal.{SchemaRefusal}
 use Rattle.uni_schema.specs.declared.refusal.SchemaRefusal.TheVariants.{BadLine, NamedTwice, UnknownVertical, OutOfRange, WordSource, TooMany, BadDeny}
 use Rattle.uni_schema.specs.declared.schema.VerticalDef.{VerticalDef}
 use Rattle.uni_schema.specs.declared.schema.TypeDef.{TypeDef}
@@ -441,8 +442,73 @@ read_again s kept =
     by : (known : Bool) → known ≡ true → refused_if (false || not known) (BadLine 1) None ≡ None
     by known is = rw is refl
 
+-- no line of a header holds an LF
+owner-unbroken : (owner : Owner) → has_lf (owner_word owner) ≡ false
+owner-unbroken Source = refl
+owner-unbroken Target = refl
+owner-unbroken Both = refl
+
+store-unbroken : (store : Store) → has_lf (store_word store) ≡ false
+store-unbroken Index = refl
+store-unbroken Forward = refl
+
+vertical_line-unbroken : (v : VerticalDef) → is_vertical_name v.name ≡ true → has_lf (vertical_line v) ≡ false
+vertical_line-unbroken v named =
+    unbroken-spaced (codes "vertical" ∷ v.name ∷ decimal v.shards ∷ decimal v.replicas ∷ [])
+    (rw (unbroken-name v.name (and_parts (is_name v.name) (not (same v.name (codes "word"))) named).0, unbroken-decimal v.shards, unbroken-decimal v.replicas) refl)
+
+verticals-unbroken : (vs : List VerticalDef) → list_all is_vertical_name (map (λ v. v.name) vs) ≡ true → AreUnbroken (map vertical_line vs)
+verticals-unbroken [] named = refl
+verticals-unbroken (v ∷ vs) named =
+    let parts = and_parts (is_vertical_name v.name) (list_all is_vertical_name (map (λ (d : VerticalDef). d.name) vs)) named in
+    rw (vertical_line-unbroken v parts.0) (verticals-unbroken vs parts.1)
+
+-- the name at a place is a vertical's, or the empty text where there is none
+name_at-unbroken : (vs : List VerticalDef) (place : ℕ) → list_all is_vertical_name (map (λ v. v.name) vs) ≡ true → has_lf (option_map_or (λ (v : VerticalDef). v.name) (slice_get vs place) []) ≡ false
+name_at-unbroken [] place named = refl
+name_at-unbroken (v ∷ vs) zero named =
+    let here = (and_parts (is_vertical_name v.name) (list_all is_vertical_name (map (λ (d : VerticalDef). d.name) vs)) named).0 in
+    unbroken-name v.name (and_parts (is_name v.name) (not (same v.name (codes "word"))) here).0
+name_at-unbroken (v ∷ vs) (suc place) named =
+    name_at-unbroken vs place (and_parts (is_vertical_name v.name) (list_all is_vertical_name (map (λ (d : VerticalDef). d.name) vs)) named).1
+
+source-unbroken : (s : Declarations) → IsSchema s → (origin : Origin) → has_lf (source_name s origin) ≡ false
+source-unbroken s kept (origins.Vertical number) = name_at-unbroken s.verticals number kept.verticals_named
+source-unbroken s kept origins.Words = refl
+
+type_line-unbroken : (s : Declarations) → IsSchema s → (t : TypeDef) → is_name t.name ≡ true → has_lf (type_line s t) ≡ false
+type_line-unbroken s kept t named =
+    unbroken-spaced (codes "type" ∷ t.name ∷ source_name s t.origin ∷ vertical_name s t.target ∷ owner_word t.owner ∷ store_word t.store ∷ [])
+    (rw (unbroken-name t.name named, source-unbroken s kept t.origin, name_at-unbroken s.verticals t.target kept.verticals_named, owner-unbroken t.owner, store-unbroken t.store) refl)
+
+types-unbroken : (s : Declarations) → IsSchema s → (ts : List TypeDef) → list_all is_name (map (λ t. t.name) ts) ≡ true → AreUnbroken (map (type_line s) ts)
+types-unbroken s kept [] named = refl
+types-unbroken s kept (t ∷ ts) named =
+    let parts = and_parts (is_name t.name) (list_all is_name (map (λ (d : TypeDef). d.name) ts)) named in
+    rw (type_line-unbroken s kept t parts.0) (types-unbroken s kept ts parts.1)
+
+denials-unbroken : (ts : List TypeDef) → list_all is_name (map (λ t. t.name) ts) ≡ true → AreUnbroken (deny_lines ts)
+denials-unbroken [] named = refl
+denials-unbroken (t ∷ ts) named =
+    let parts = and_parts (is_name t.name) (list_all is_name (map (λ (d : TypeDef). d.name) ts)) named in
+    by t.deny (unbroken-spaced (codes "deny" ∷ t.name ∷ []) (rw (unbroken-name t.name parts.0) refl)) (denials-unbroken ts parts.1)
+  where
+    by : (deny : Bool) → has_lf (deny_line t) ≡ false → AreUnbroken (deny_lines ts) → AreUnbroken (cond deny (deny_line t ∷ deny_lines ts) (deny_lines ts))
+    by true here rest = rw here rest
+    by false here rest = rest
+
+header-unbroken : (s : Declarations) → IsSchema s → AreUnbroken (header_lines s)
+header-unbroken s kept =
+    none_joined has_lf (format_line s.format ∷ []) (map vertical_line s.verticals ++ (map (type_line s) s.types ++ (deny_lines s.types ++ codes "begin" ∷ [])))
+    (rw (unbroken-spaced (codes "unicorn" ∷ decimal s.format ∷ []) (rw (unbroken-decimal s.format) refl)) refl)
+    (none_joined has_lf (map vertical_line s.verticals) (map (type_line s) s.types ++ (deny_lines s.types ++ codes "begin" ∷ [])) (verticals-unbroken s.verticals kept.verticals_named)
+    (none_joined has_lf (map (type_line s) s.types) (deny_lines s.types ++ codes "begin" ∷ []) (types-unbroken s kept s.types kept.types_named)
+    (none_joined has_lf (deny_lines s.types) (codes "begin" ∷ []) (denials-unbroken s.types kept.types_named) refl)))
+
 pub print_is_read : PrintIsRead
-print_is_read = record { is = read_again }
+print_is_read = record {
+  is = λ schema kept. ap (opening_of 65536) (lines_are_read.again (header_lines schema) (header-unbroken schema kept)) ∙ read_again schema kept;
+}
 
 -- of a type that fits: where it starts, and its target
 pub type_starts : (count : ℕ) (t : TypeDef) → is_type count t ≡ true → starts_below count t.origin ≡ true

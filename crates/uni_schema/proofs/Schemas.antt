@@ -1,6 +1,6 @@
 -- What every schema keeps, as it grows.
-use Rattle.std.proofs.Common.{◌≡◌, ℕ, zero, suc, ◌+◌, ◌≤◌, ◌<◌, ◌&&◌, ◌||◌, not, nat_lt, nat_le, Bool, true, false, cond, if◌then◌else◌, List, [], ◌∷◌, ◌++◌, length, map, Option, None, Some, slice_get, refl, ap, length-append, ◌∙◌, sym, arith, zero-add, append_assoc, append-nil}
-use Rattle.std.specs.List.{list_all, list_any, count_by, prefix_len, position}
+use Rattle.std.proofs.Common.{◌≡◌, ℕ, suc, ◌+◌, ◌≤◌, ◌<◌, ◌&&◌, ◌||◌, not, nat_lt, Bool, true, false, cond, if◌then◌else◌, List, [], ◌∷◌, ◌++◌, length, map, None, Some, slice_get, refl, ap, length-append, ◌∙◌, sym, arith, zero-add, append_assoc, append-nil}
+use Rattle.std.specs.List.{list_all, list_any, prefix_len, position}
 use Rattle.std.proofs.lemmas.List.{map-append}
 use Rattle.std.specs.Map.{keys_of, values_of}
 use Rattle.std.proofs.lemmas.Bool.{and_parts}
@@ -9,11 +9,12 @@ use Rattle.std.proofs.lemmas.List.Folds.{list_all-append}
 use Rattle.std.proofs.lemmas.List.Sums.{sum_by-append}
 use Rattle.indexmap.specs.IndexMap.{insert_entry}
 use Rattle.uni_base.specs.Fields.{same}
-use Rattle.uni_schema.specs.Schema.{Declarations, IsSchema, with_vertical, with_type, is_vertical, is_type, starts_below, starts_at_words, is_index, is_target_owner, denials, denied, denying, is_name, is_vertical_name, are_fresh, vertical_names, type_names}
+use Rattle.uni_schema.specs.Schema.{Declarations, IsSchema, with_vertical, with_type, is_vertical, is_type, starts_below, starts_at_words, is_index, is_target_owner, denials, denied, denying, is_vertical_name, are_fresh, vertical_names, type_names}
 use Rattle.uni_schema.specs.Rules.{may_deny}
 use Rattle.uni_schema.specs.declared.schema.VerticalDef.{VerticalDef}
 use Rattle.uni_schema.specs.declared.schema.TypeDef.{TypeDef}
 use Rattle.uni_schema.specs.declared.schema.Origin.{Origin}
+use Rattle.uni_base.specs.Words.{is_name}
 use Rattle.uni_schema.specs.declared.schema.Origin.TheVariants.{Vertical, Words}
 
 both : (a b : Bool) → a ≡ true → b ≡ true → (a && b) ≡ true

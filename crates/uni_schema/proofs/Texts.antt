@@ -1,18 +1,16 @@
 -- Lines by their texts.
-use Rattle.std.proofs.Common.{◌≡◌, ◌↔◌, ℕ, ◌==◌, ◌&&◌, ◌||◌, not, nat_le, Bool, true, false, cond, if◌then◌else◌, List, [], ◌∷◌, Option, None, Some, IfSome, refl, ap, sym, subst, ◌∙◌, codes, arith, length}
+use Rattle.std.proofs.Common.{◌≡◌, ℕ, ◌==◌, ◌&&◌, ◌||◌, not, nat_le, Bool, true, false, if◌then◌else◌, List, [], ◌∷◌, Option, None, Some, IfSome, refl, ap, sym, subst, ◌∙◌, codes, arith, length}
 use Rattle.std.specs.Option.{option_map, option_and_then}
 use Rattle.std.specs.List.{list_all}
 use Rattle.std.specs.Cmp.Lexicographic.{same_text}
 use Rattle.std.specs.Str.Parse.{digits_value}
 use Rattle.std.proofs.lemmas.Bool.Decides.{nat_tests}
 use Rattle.std.proofs.lemmas.Bool.{and_parts}
-use Rattle.std.proofs.lemmas.Option.{option_and_then_some}
 use Rattle.uni_base.specs.Fields.{same, fields_of, spaced}
-use Rattle.uni_base.specs.Words.{is_word, is_word_byte, is_digit, starts_with_letter}
+use Rattle.uni_base.specs.Words.{is_word, is_word_byte, is_digit, starts_with_letter, is_name}
 use Rattle.uni_base.specs.Numbers.{number_of, is_number, starts_with_zero}
 use Rattle.uni_base.proofs.FieldLemmas.{spaced-fields_of, fields_of-spaced}
 use Rattle.uni_schema.specs.Lines.{name_of, owner_of, store_of, format_by, vertical_by, type_by, deny_by, begin_by, declared_by, declaration_of}
-use Rattle.uni_schema.specs.Schema.{is_name}
 use Rattle.uni_schema.specs.Rules.{is_written}
 use Rattle.uni_schema.specs.HeaderText.{IsName, IsNumeralOf, owner_word, store_word, FieldsSay, Says, LinesByText}
 use Rattle.uni_schema.specs.declared.line.HeaderLine.{HeaderLine}

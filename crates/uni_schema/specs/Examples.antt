@@ -1,10 +1,10 @@
 -- Worked headers.
-use Rattle.std.specs.Prelude.{◌≡◌, ℕ, true, false, List, [], ◌∷◌, codes}
+use Rattle.std.specs.Prelude.{◌≡◌, ℕ, true, List, [], ◌∷◌, codes}
 use Rattle.uni_schema.specs.Header.{Opening, opens, refused, opening_of}
 use Rattle.uni_schema.specs.declared.refusal.SchemaRefusal.TheVariants.{BadLine, NamedTwice, UnknownVertical, OutOfRange, WordSource, BadDeny, NoBegin}
-use Rattle.uni_schema.specs.declared.schema.Origin.TheVariants.{Vertical, Words}
-use Rattle.uni_schema.specs.declared.schema.Owner.TheVariants.{Source, Target, Both}
-use Rattle.uni_schema.specs.declared.schema.Store.TheVariants.{Index, Forward}
+use Rattle.uni_schema.specs.declared.schema.Origin.TheVariants.{Vertical}
+use Rattle.uni_schema.specs.declared.schema.Owner.TheVariants.{Source}
+use Rattle.uni_schema.specs.declared.schema.Store.TheVariants.{Index}
 
 abbrev pub first : List ℕ
 first = codes "unicorn 1"

@@ -1,11 +1,11 @@
 -- The header of a script, line by line.
-use Rattle.std.specs.Prelude.{ℕ, Bool, true, false, ◌+◌, nat_le, if◌then◌else◌, List, [], ◌∷◌, length, Option, None, Some}
+use Rattle.std.specs.Prelude.{ℕ, ◌≡◌, Bool, true, false, ◌+◌, nat_le, if◌then◌else◌, List, [], ◌∷◌, length, Option, None, Some}
 use Rattle.uni_base.specs.Fields.{is_skipped}
 use Rattle.uni_schema.specs.Lines.{declaration_of}
 use Rattle.uni_schema.specs.Rules.{rules, declares}
-use Rattle.uni_schema.specs.Schema.{Declarations, nothing}
+use Rattle.uni_schema.specs.Schema.{Declarations, IsSchema, nothing}
 use Rattle.uni_schema.specs.declared.line.HeaderLine.{HeaderLine}
-use Rattle.uni_schema.specs.declared.line.HeaderLine.TheVariants.{Format, Vertical, EdgeType, Deny, Begin}
+use Rattle.uni_schema.specs.declared.line.HeaderLine.TheVariants.{Begin}
 use Rattle.uni_schema.specs.declared.refusal.SchemaRefusal.{SchemaRefusal}
 use Rattle.uni_schema.specs.declared.refusal.SchemaRefusal.TheVariants.{BadLine, NoBegin}
 
@@ -74,3 +74,7 @@ opening_from state (line ∷ lines) = after_step lines (λ next. opening_from ne
 -- the header of the lines of a script, whose lines are at most so long
 abbrev pub opening_of : ℕ → List (List ℕ) → Opening
 opening_of longest lines = opening_from (opening longest) lines
+
+-- what lines that open declare keeps what every schema keeps
+pub record OpenedIsSchema : Type 0 where
+  pub is : (longest : ℕ) (lines : List (List ℕ)) (schema : Declarations) (number : ℕ) (rest : List (List ℕ)) → opening_of longest lines ≡ opens schema number rest → IsSchema schema

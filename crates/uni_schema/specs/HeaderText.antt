@@ -1,9 +1,9 @@
 -- What the lines of a header say, by their texts.
-use Rattle.std.specs.Prelude.{ℕ, ◌+◌, ◌≤◌, ◌<◌, Bool, true, false, ◌≡◌, ◌&&◌, ◌↔◌, ◌⊎◌, List, [], ◌∷◌, ◌++◌, length, Option, None, Some, codes}
+use Rattle.std.specs.Prelude.{ℕ, ◌+◌, ◌≤◌, ◌<◌, true, false, ◌≡◌, ◌↔◌, ◌⊎◌, List, [], ◌∷◌, ◌++◌, length, None, Some, codes}
 use Rattle.uni_base.specs.Fields.{spaced, is_skipped}
 use Rattle.uni_schema.specs.Header.{HeaderState, opening, passed, told, Opening, opens, refused, opening_of}
 use Rattle.uni_schema.specs.Rules.{rules}
-use Rattle.uni_schema.specs.Schema.{Declarations, is_name}
+use Rattle.uni_schema.specs.Schema.{Declarations}
 use Rattle.uni_schema.specs.declared.refusal.SchemaRefusal.{SchemaRefusal}
 use Rattle.uni_schema.specs.declared.refusal.SchemaRefusal.TheVariants.{BadLine, NoBegin}
 use Rattle.uni_base.specs.Numbers.{number_of}
@@ -13,6 +13,7 @@ use Rattle.uni_schema.specs.declared.line.HeaderLine.TheVariants.{Format, Vertic
 use Rattle.uni_schema.specs.declared.schema.Owner.{Owner}
 use Rattle.uni_schema.specs.declared.schema.Owner.TheVariants.{Source, Target, Both}
 use Rattle.uni_schema.specs.declared.schema.Store.{Store}
+use Rattle.uni_base.specs.Words.{is_name}
 use Rattle.uni_schema.specs.declared.schema.Store.TheVariants.{Index, Forward}
 
 abbrev pub IsName : List ℕ → Type 0

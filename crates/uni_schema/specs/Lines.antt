@@ -1,8 +1,8 @@
 -- The lines of a header.
-use Rattle.std.specs.Prelude.{ℕ, Bool, ◌&&◌, ◌==◌, if◌then◌else◌, List, [], ◌∷◌, Option, None, Some, codes}
+use Rattle.std.specs.Prelude.{ℕ, if◌then◌else◌, List, [], ◌∷◌, Option, None, Some, codes}
 use Rattle.std.specs.Option.{option_map, option_and_then}
 use Rattle.uni_base.specs.Fields.{same, fields_of}
-use Rattle.uni_schema.specs.Schema.{is_name}
+use Rattle.uni_base.specs.Words.{is_name}
 use Rattle.uni_base.specs.Numbers.{number_of}
 use Rattle.uni_schema.specs.declared.line.HeaderLine.{HeaderLine}
 use Rattle.uni_schema.specs.declared.line.HeaderLine.TheVariants.{Format, Vertical, EdgeType, Deny, Begin}

@@ -3,6 +3,7 @@ use Rattle.std.specs.Prelude.{ℕ, ◌≡◌, ◌+◌, if◌then◌else◌, List
 use Rattle.std.specs.Fmt.{decimal}
 use Rattle.std.specs.Option.{option_map_or}
 use Rattle.uni_base.specs.Fields.{spaced}
+use Rattle.uni_base.specs.Lines.{lines_of, lined}
 use Rattle.uni_schema.specs.Schema.{Declarations, IsSchema, vertical_at}
 use Rattle.uni_schema.specs.Header.{opens, opening_of}
 use Rattle.uni_schema.specs.HeaderText.{owner_word, store_word}
@@ -43,15 +44,10 @@ abbrev pub header_lines : Declarations → List (List ℕ)
 header_lines schema =
     format_line schema.format ∷ (map vertical_line schema.verticals ++ (map (type_line schema) schema.types ++ (deny_lines schema.types ++ codes "begin" ∷ [])))
 
--- lines, each with its LF
-abbrev pub lined : List (List ℕ) → List ℕ
-lined [] = []
-lined (line ∷ lines) = line ++ 10 ∷ lined lines
-
 -- the text of a schema
 abbrev pub header_text : Declarations → List ℕ
 header_text schema = lined (header_lines schema)
 
--- the lines of a schema are read as that schema again
+-- the text of a schema is read, line by line, as that schema again
 pub record PrintIsRead : Type 0 where
-  pub is : (schema : Declarations) → IsSchema schema → opening_of 65536 (header_lines schema) ≡ opens schema (length (header_lines schema) + 1) []
+  pub is : (schema : Declarations) → IsSchema schema → opening_of 65536 (lines_of (header_text schema)) ≡ opens schema (length (header_lines schema) + 1) []

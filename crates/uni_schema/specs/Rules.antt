@@ -1,8 +1,8 @@
 -- The rules of a header, and what its lines declare.
-use Rattle.std.specs.Prelude.{ℕ, Bool, true, false, ◌==◌, ◌&&◌, ◌||◌, not, nat_le, if◌then◌else◌, List, [], ◌∷◌, length, Option, None, Some, codes, find, is_some, is_none, unwrap_or, slice_get}
-use Rattle.std.specs.Option.{option_map, option_map_or, option_and_then}
+use Rattle.std.specs.Prelude.{ℕ, Bool, true, false, ◌==◌, ◌&&◌, ◌||◌, not, nat_le, if◌then◌else◌, List, length, Option, None, Some, codes, is_some, is_none, unwrap_or}
+use Rattle.std.specs.Option.{option_map_or, option_and_then}
 use Rattle.uni_base.specs.Fields.{same}
-use Rattle.uni_schema.specs.Schema.{Declarations, is_name, with_vertical, with_type, denying, denials, vertical_no, type_no, type_at, is_target_owner, is_index, starts_at_words}
+use Rattle.uni_schema.specs.Schema.{Declarations, with_vertical, with_type, denying, denials, vertical_no, type_no, type_at, is_target_owner, is_index, starts_at_words}
 use Rattle.uni_schema.specs.declared.line.HeaderLine.{HeaderLine}
 use Rattle.uni_schema.specs.declared.line.HeaderLine.TheVariants.{Format, Vertical, EdgeType, Deny, Begin}
 use Rattle.uni_schema.specs.declared.schema.Owner.{Owner}
@@ -11,6 +11,7 @@ use Rattle.uni_schema.specs.declared.schema.TypeDef.{TypeDef}
 use Rattle.uni_schema.specs.declared.schema.Origin.{Origin}
 use Rattle.uni_schema.specs.declared.schema.Origin.TheVariants as origins
 use Rattle.uni_schema.specs.declared.refusal.SchemaRefusal.{SchemaRefusal}
+use Rattle.uni_base.specs.Words.{is_name}
 use Rattle.uni_schema.specs.declared.refusal.SchemaRefusal.TheVariants.{BadLine, NamedTwice, UnknownVertical, OutOfRange, WordSource, TooMany, BadDeny}
 
 -- `word`, which is no vertical's name

@@ -1,11 +1,11 @@
 -- What a header declares.
-use Rattle.std.specs.Prelude.{ℕ, Bool, true, false, if◌then◌else◌, ◌≡◌, ◌≤◌, ◌%◌, ◌&&◌, ◌||◌, ◌==◌, not, nat_le, nat_lt, List, [], ◌∷◌, ◌++◌, length, codes, Option, None, Some, map, count_by, position, slice_get, is_some}
+use Rattle.std.specs.Prelude.{ℕ, Bool, true, false, if◌then◌else◌, ◌≡◌, ◌≤◌, ◌%◌, ◌&&◌, ◌||◌, ◌==◌, not, nat_le, nat_lt, List, [], ◌∷◌, ◌++◌, length, codes, Option, None, Some, map, count_by, position, slice_get}
 use Rattle.std.specs.Option.{option_map, option_and_then, option_map_or}
 use Rattle.std.specs.List.{list_all, list_any}
 use Rattle.std.specs.Map.{keys_of, values_of}
 use Rattle.uni_base.specs.Fields.{same}
 use Rattle.uni_base.specs.Numbers.{id_of}
-use Rattle.uni_base.specs.Words.{is_word, starts_with_letter}
+use Rattle.uni_base.specs.Words.{is_name}
 use Rattle.uni_base.specs.declared.edge.EdgeRef.{EdgeRef}
 use Rattle.uni_base.specs.declared.edge.Key.{Key}
 use Rattle.uni_base.specs.declared.edge.Key.TheVariants.{Id, Word}
@@ -125,10 +125,7 @@ is_type count type_def =
 abbrev pub denials : List TypeDef → ℕ
 denials types = count_by (λ type_def. type_def.deny) types
 
--- a name is a word whose first byte is a letter; `word` is no vertical's
-abbrev pub is_name : List ℕ → Bool
-is_name text = is_word text && starts_with_letter text
-
+-- a vertical's name is a name, but not `word`
 abbrev pub is_vertical_name : List ℕ → Bool
 is_vertical_name text = is_name text && not (same text (codes "word"))
 

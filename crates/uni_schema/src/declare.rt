@@ -1,7 +1,8 @@
 ghost use Rattle.std.specs.Prelude.{◌≡◌, ◌⊎◌, ◌≤◌, ◌<◌, Some, None, OnOk, OnErr, IfErr, false, true, length, map, ◌==◌, ◌||◌};
 ghost use Rattle.std.specs.Option.{option_map_or, option_and_then};
 ghost use Rattle.uni_schema.specs.Rules.{rules, declares, origin_of, type_told, type_rules, may_deny, is_written};
-ghost use Rattle.uni_schema.specs.Schema.{with_vertical, with_type, denying, is_vertical, is_type, is_name, is_vertical_name, vertical_no, type_no, type_at, denials};
+ghost use Rattle.uni_base.specs.Words.{is_name};
+ghost use Rattle.uni_schema.specs.Schema.{with_vertical, with_type, denying, is_vertical, is_type, is_vertical_name, vertical_no, type_no, type_at, denials};
 
 use crate::line::HeaderLine;
 use crate::rules::is_word_name;

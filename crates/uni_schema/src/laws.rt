@@ -1,4 +1,5 @@
 //! Laws about definitions, each the contract of a function that does nothing.
+ghost use Rattle.uni_schema.specs.Header.{OpenedIsSchema};
 ghost use Rattle.uni_schema.specs.HeaderText.{LinesByText, OpensByText};
 ghost use Rattle.uni_schema.specs.Print.{PrintIsRead};
 
@@ -15,7 +16,13 @@ pub fn opens_by_text()
     ensures { OpensByText }
 {}
 
-/// The lines of a schema's text are read as that schema again, under the standard limit of a line.
+/// What the lines of a script open with keeps what every schema keeps.
+#[tactic(auto, using(crate::proofs::Opened::opened_is_schema))]
+pub fn opened_is_schema()
+    ensures { OpenedIsSchema }
+{}
+
+/// The text of a schema is read, line by line, as that schema again, under the standard limit of a line.
 #[tactic(auto, using(crate::proofs::PrintLaws::print_is_read))]
 pub fn print_is_read()
     ensures { PrintIsRead }

@@ -2,7 +2,8 @@ ghost use Rattle.std.specs.Prelude.{◌≡◌, ◌++◌, ◌∷◌, [], ◌<◌,
 ghost use Rattle.std.specs.Fmt.{decimal};
 ghost use Rattle.uni_schema.specs.Schema.{is_type, starts_below};
 ghost use Rattle.uni_schema.specs.HeaderText.{owner_word, store_word};
-ghost use Rattle.uni_schema.specs.Print.{format_line, vertical_line, type_line, deny_line, deny_lines, source_name, lined, header_text};
+ghost use Rattle.uni_base.specs.Lines.{lined};
+ghost use Rattle.uni_schema.specs.Print.{format_line, vertical_line, type_line, deny_line, deny_lines, source_name, header_text};
 
 use crate::{Origin, Owner, Schema, Store, TypeDef, VerticalDef};
 use itoa::Buffer;

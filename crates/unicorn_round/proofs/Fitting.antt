@@ -11,7 +11,7 @@ use Rattle.reply_text.specs.declared.answer.Answer.{Answer}
 use Rattle.reply_text.specs.declared.answer.Answer.TheVariants as said
 use Rattle.reply_text.specs.Heads.{head_of}
 use Rattle.reply_text.specs.Laws.{numbers_of, words_of}
-use Rattle.reply_text.specs.Lines.{AreUnbroken}
+use Rattle.uni_base.specs.Lines.{AreUnbroken}
 use Rattle.reply_text.specs.Printed.{AnswerIsDeclared}
 use Rattle.script_rounds.specs.Asks.{most_hits}
 use Rattle.script_rounds.specs.Entries.{Entry, change, publish, ask, compact, stats, refused, fault, query_fault, line_of}

@@ -9,7 +9,7 @@ use Rattle.uni_schema.specs.declared.refusal.SchemaRefusal.TheVariants as header
 use Rattle.script_rounds.specs.declared.lines.ScriptRefusal.{ScriptRefusal}
 use Rattle.script_rounds.specs.declared.lines.ScriptRefusal.TheVariants.{ReadFault, TooLong, Memory}
 use Rattle.script_rounds.specs.Entries.{Entry}
-use Rattle.script_rounds.specs.Lines.{lines_of}
+use Rattle.uni_base.specs.Lines.{lines_of}
 use Rattle.script_rounds.specs.Reading.{IsSpent}
 use Rattle.script_rounds.specs.Rounds.{Script, opened, unopened, script_by, closed_from, script_of, closed_script_of}
 use Rattle.script_rounds.specs.RoundsState.{RoundsState, HeaderRefused, HeaderStopped, IsUnfinished, ReadStopped}

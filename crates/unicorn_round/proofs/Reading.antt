@@ -7,7 +7,7 @@ use Rattle.uni_schema.specs.Schema.{Declarations}
 use Rattle.script_rounds.specs.declared.item.Item.{Item}
 use Rattle.script_rounds.specs.declared.item.Round.{Round}
 use Rattle.script_rounds.specs.Entries.{Entry, AreItemsOf}
-use Rattle.script_rounds.specs.Lines.{lines_of}
+use Rattle.uni_base.specs.Lines.{lines_of}
 use Rattle.script_rounds.specs.Reading.{Gave, NoneLeft, EndFits, IsSpent, at}
 use Rattle.script_rounds.specs.Rounds.{Script, opened, rounds_from, script_of, closed_script_of}
 use Rattle.script_rounds.specs.RoundsState.{RoundsState, Opened, ReadNext, ReadRound, ReadEnd, rounds_ahead, closed_ahead, lines_in_all}

@@ -9,7 +9,7 @@ use Rattle.query_check.specs.Laws.{FaultsStandIn}
 use Rattle.reply_text.specs.declared.answer.Answer.{Answer}
 use Rattle.reply_text.specs.Heads.{head_of}
 use Rattle.reply_text.specs.Laws.{AreDeclared, HeadsAreSmall, HeadsByText, LinesAreUnbroken, numbers_of, words_of}
-use Rattle.reply_text.specs.Lines.{AreUnbroken}
+use Rattle.uni_base.specs.Lines.{AreUnbroken}
 use Rattle.reply_text.specs.Printed.{AnswerIsDeclared, answers_text, lines_of_answers}
 use Rattle.script_rounds.specs.Entries.{Entry, line_of}
 use Rattle.script_rounds.specs.Laws.{NumbersRise, WordsAreUnbroken, all_entries}

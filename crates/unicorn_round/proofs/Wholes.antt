@@ -40,7 +40,7 @@ use Rattle.uni_meaning.proofs.Exact.{lineages_are_exact}
 use Rattle.uni_meaning.proofs.Firsts.{first_is_first}
 use Rattle.uni_meaning.proofs.Stands.{lineages_stand}
 use Rattle.reply_text.specs.Laws.{word_of, words_of_hit}
-use Rattle.reply_text.specs.Lines.{has_lf, AreUnbroken}
+use Rattle.uni_base.specs.Lines.{has_lf, AreUnbroken}
 use Rattle.script_rounds.specs.Laws.{audience_words, words_of}
 
 -- no word of a command holds an LF, nor one of commands

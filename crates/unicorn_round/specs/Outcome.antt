@@ -7,12 +7,13 @@ use Rattle.uni_schema.specs.Header.{refused as header_refused}
 use Rattle.uni_schema.specs.declared.refusal.SchemaRefusal.{SchemaRefusal}
 use Rattle.uni_schema.specs.declared.refusal.SchemaRefusal.TheVariants as header
 use Rattle.script_rounds.specs.Entries.{Entry}
-use Rattle.script_rounds.specs.Lines.{lines_of, lines_so_far}
+use Rattle.script_rounds.specs.Lines.{lines_so_far}
 use Rattle.script_rounds.specs.Reading.{Gave, NoneLeft}
 use Rattle.script_rounds.specs.Rounds.{Script, opened, unopened, script_of, closed_script_of}
 use Rattle.script_rounds.specs.Terms.{Terms, under}
 use Rattle.unicorn_round.specs.declared.status.Status.{Status}
 use Rattle.unicorn_round.specs.declared.status.Status.TheVariants.{Done, Usage, Schema, ReadFault, WriteFault, TooLong, Memory}
+use Rattle.uni_base.specs.Lines.{lines_of}
 use Rattle.unicorn_round.specs.Writing.{Took, TookPart}
 
 -- what a mode says that a text is, of a script's rounds

@@ -3,7 +3,7 @@ use Rattle.std.specs.Prelude.{ℕ, true, false, ◌≡◌, ◌≤◌, ◌*◌, L
 use Rattle.uni_base.specs.declared.limits.Limits.{Limits}
 use Rattle.uni_schema.specs.Schema.{Declarations}
 use Rattle.script_rounds.specs.Entries.{Entry}
-use Rattle.script_rounds.specs.Lines.{lines_of}
+use Rattle.uni_base.specs.Lines.{lines_of}
 use Rattle.script_rounds.specs.Reading.{Gave, IsSpent, NoneLeft}
 use Rattle.script_rounds.specs.Rounds.{opened, script_of, closed_script_of}
 use Rattle.script_rounds.specs.RoundsState.{RoundsState, rounds_ahead, closed_ahead, lines_in_all}

@@ -1,5 +1,6 @@
 use Rattle.std.proofs.Common.{◌≡◌, ◌++◌, map, take}
-use Rattle.uni_schema.specs.Print.{lined, vertical_line, type_line, deny_lines}
+use Rattle.uni_base.specs.Lines.{lined}
+use Rattle.uni_schema.specs.Print.{type_line}
 use Rattle.uni_schema.proofs.print.add_types.Given as goal
 
 abbrev pub invariant-loop-no : goal.invariant-loop-no

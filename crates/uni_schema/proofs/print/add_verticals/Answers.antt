@@ -1,6 +1,7 @@
-use Rattle.std.proofs.Common.{◌≡◌, ◌++◌, ◌∷◌, [], map, take, ap, sym, ◌∙◌, append_assoc}
-use Rattle.uni_schema.specs.Print.{lined, vertical_line, type_line, deny_lines}
-use Rattle.uni_schema.proofs.LineLists.{lined_next, deny_next}
+use Rattle.std.proofs.Common.{◌++◌, ◌∷◌, [], map, take, ap, sym, ◌∙◌, append_assoc}
+use Rattle.uni_schema.specs.Print.{vertical_line}
+use Rattle.uni_base.specs.Lines.{lined}
+use Rattle.uni_schema.proofs.LineLists.{lined_next}
 use Rattle.uni_schema.proofs.print.add_verticals.Goals as goal
 
 pub loop-no-preserved : goal.loop-no-preserved

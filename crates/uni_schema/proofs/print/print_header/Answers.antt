@@ -1,5 +1,6 @@
-use Rattle.std.proofs.Common.{◌≡◌, ◌++◌, ◌∷◌, [], map, codes, ap, ◌∙◌}
-use Rattle.uni_schema.specs.Print.{lined, format_line, vertical_line, type_line, deny_lines}
+use Rattle.std.proofs.Common.{◌++◌, ◌∷◌, [], map, codes, ap, ◌∙◌}
+use Rattle.uni_schema.specs.Print.{format_line, vertical_line, type_line, deny_lines}
+use Rattle.uni_base.specs.Lines.{lined}
 use Rattle.uni_schema.proofs.LineLists.{whole_text}
 use Rattle.uni_schema.proofs.print.print_header.Goals as goal
 

@@ -1,6 +1,6 @@
 use Rattle.std.proofs.Common.{rules, ◌≡◌, ◌∙◌, false, [], ap, arith, take}
 use Rattle.std.proofs.lemmas.Result.{err_from_is_err_and}
-use Rattle.script_rounds.specs.Lines.{has_lf}
+use Rattle.uni_base.specs.Lines.{has_lf}
 use Rattle.script_rounds.specs.Reading.{LineState, at}
 use Rattle.script_rounds.proofs.ReadSteps.{went_more, went_shortened}
 use Rattle.script_rounds.proofs.Fronts.{no_lf-take}

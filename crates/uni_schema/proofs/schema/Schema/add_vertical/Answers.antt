@@ -1,4 +1,4 @@
-use Rattle.std.proofs.Common.{◌≡◌, ◌<◌, List, [], ◌∷◌, ◌++◌, length, arith, ap, sym, subst}
+use Rattle.std.proofs.Common.{◌<◌, List, length, ap, sym, subst}
 use Rattle.std.specs.Map.{values_of}
 use Rattle.uni_schema.specs.Schema.{Declarations, IsSchema, vertical_names}
 use Rattle.uni_schema.specs.declared.schema.VerticalDef.{VerticalDef}

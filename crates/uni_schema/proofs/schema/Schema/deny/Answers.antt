@@ -1,8 +1,8 @@
-use Rattle.std.proofs.Common.{◌≡◌, ◌<◌, true, false, List, [], ◌∷◌, ◌++◌, length, map, Option, None, Some, slice_get, arith, ap, sym, subst, ◌∙◌}
+use Rattle.std.proofs.Common.{◌≡◌, ◌<◌, true, false, List, map, Some, slice_get, ap, sym, subst, ◌∙◌}
 use Rattle.std.specs.Map.{values_of}
 use Rattle.std.specs.Option.{option_map_or, option_and_then}
 use Rattle.uni_schema.specs.Rules.{may_deny}
-use Rattle.uni_schema.specs.Schema.{Declarations, IsSchema, denials, type_at, type_no}
+use Rattle.uni_schema.specs.Schema.{Declarations, IsSchema, denials, type_at}
 use Rattle.uni_schema.specs.declared.schema.TypeDef.{TypeDef}
 use Rattle.uni_schema.proofs.Schemas.{IsDenied, denied_entries, denying-kept, place, place-position}
 use Rattle.uni_schema.proofs.schema.Schema.deny.Goals as goal
