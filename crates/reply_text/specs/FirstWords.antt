@@ -34,7 +34,3 @@ first_words = record {
 abbrev pub head_words : List (List ℕ)
 head_words = first_words.published ∷ first_words.reply ∷ first_words.compacted ∷ first_words.stats ∷ first_words.refused
     ∷ first_words.error ∷ first_words.memory ∷ first_words.tidied ∷ first_words.untidied ∷ []
-
--- and those of the lines that follow them
-abbrev pub further_words : List (List ℕ)
-further_words = first_words.hit ∷ first_words.stack ∷ []

@@ -1,5 +1,5 @@
 pub mod Compacting
 mod Feeding
-mod Items
+pub mod Items
 mod Seated
 pub mod Steps

@@ -1,5 +1,6 @@
 ghost use Rattle.std.specs.Prelude.{◌≡◌, ◌++◌, ◌*◌, IfOk, length, option_to_list};
-ghost use Rattle.script_rounds.specs.Fits.{ItemFits, ItemsFit};
+ghost use Rattle.std.specs.List.{AllByRecursion};
+ghost use Rattle.round_feed.specs.Fits.{CompactFits};
 ghost use Rattle.version_catalog.specs.Seats.{compactor_installs, compactor_journal};
 ghost use Rattle.round_feed.specs.Compacted.{AreCompacted, compact_entries, compact_entry, installs_by};
 ghost use Rattle.round_feed.specs.Seats.{HasCompacted, MayCompact, terms_of};
@@ -23,7 +24,7 @@ pub fn compact_round<R: Wait, G: Gate>(
     gate: &G,
 ) -> Result<AnswerList, AllocError>
     requires may { MayCompact catalogue.now (2 * length items.now) compactor.old }
-    requires fit { ItemsFit (terms_of catalogue.now) items.now }
+    requires fit { AllByRecursion (CompactFits (terms_of catalogue.now)) items.now }
     ensures taken { HasCompacted catalogue.now (2 * length items.now) compactor.old compactor.new }
     ensures compacted { IfOk result (AreCompacted (length (compactor_journal compactor.old)) (length (compactor_journal compactor.new)) (compact_entries items.now)) }
     ensures installed { IfOk result (λ answers. compactor_installs compactor.new ≡ compactor_installs compactor.old ++ installs_by (compact_entries items.now) answers) }
@@ -45,7 +46,7 @@ fn compact_line<R: Wait, G: Gate>(
     gate: &G,
 ) -> Option<Answer>
     requires may { MayCompact catalogue.now 2 compactor.old }
-    requires fits { ItemFits (terms_of catalogue.now) item.now }
+    requires fits { CompactFits (terms_of catalogue.now) item.now }
     ensures taken { HasCompacted catalogue.now 2 compactor.old compactor.new }
     ensures compacted { AreCompacted (length (compactor_journal compactor.old)) (length (compactor_journal compactor.new)) (option_to_list (compact_entry item.now)) (option_to_list result) }
     ensures installed { compactor_installs compactor.new ≡ compactor_installs compactor.old ++ installs_by (option_to_list (compact_entry item.now)) (option_to_list result) }

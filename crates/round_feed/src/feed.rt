@@ -1,6 +1,7 @@
 ghost use Rattle.std.specs.Prelude.{IfOk, Some, length};
 ghost use Rattle.script_rounds.specs.Entries.{change, publish};
-ghost use Rattle.script_rounds.specs.Fits.{ItemFits, ItemsFit};
+ghost use Rattle.std.specs.List.{AllByRecursion};
+ghost use Rattle.round_feed.specs.Fits.{FeedFits};
 ghost use Rattle.uni_table.specs.Commands.{IsDeclared};
 ghost use Rattle.shard_index.specs.Batches.{TakeOver, all_shards};
 ghost use Rattle.version_catalog.specs.Layered.{MakesLayers};
@@ -34,7 +35,7 @@ pub fn feed_round<R: Wait, G: Gate>(
     gate: &G,
 ) -> Result<AnswerList, AllocError>
     requires may { MayFeed catalogue.now (length items.now) feeder.old }
-    requires fit { ItemsFit (terms_of catalogue.now) items.now }
+    requires fit { AllByRecursion (FeedFits (terms_of catalogue.now)) items.now }
     ensures taken { HasFed catalogue.now (length items.now) feeder.old feeder.new }
     ensures fed { IfOk result (λ answers. IsFed (terms_of catalogue.now) (feed_of feeder.old) items.now answers (feed_of feeder.new)) }
 {
@@ -56,7 +57,7 @@ pub fn feed_round_by<R: Threads + Wait + Sync, G: Gate>(
     gate: &G,
 ) -> Result<AnswerList, AllocError>
     requires may { MayFeed catalogue.now (length items.now) feeder.old }
-    requires fit { ItemsFit (terms_of catalogue.now) items.now }
+    requires fit { AllByRecursion (FeedFits (terms_of catalogue.now)) items.now }
     ensures taken { HasFed catalogue.now (length items.now) feeder.old feeder.new }
     ensures fed { IfOk result (λ answers. IsFed (terms_of catalogue.now) (feed_of feeder.old) items.now answers (feed_of feeder.new)) }
 {
@@ -77,7 +78,7 @@ fn feed_items<R: Wait, F: Fn(&Table) -> Result<Vec<ShardLayer>, AllocError>, G: 
     gate: &G,
 ) -> Result<AnswerList, AllocError>
     requires may { MayFeed catalogue.now (length items.now) feeder.old }
-    requires fit { ItemsFit (terms_of catalogue.now) items.now }
+    requires fit { AllByRecursion (FeedFits (terms_of catalogue.now)) items.now }
     requires callable { F.IsAlwaysCallable layers_of.now }
     requires layers { MakesLayers F.Fn layers_of.now }
     ensures taken { HasFed catalogue.now (length items.now) feeder.old feeder.new }
@@ -115,7 +116,7 @@ fn feed_line<R: Wait, F: Fn(&Table) -> Result<Vec<ShardLayer>, AllocError>, G: G
     gate: &G,
 ) -> Option<Answer>
     requires may { MayFeed catalogue.now 1 feeder.old }
-    requires fits { ItemFits (terms_of catalogue.now) item.now }
+    requires fits { FeedFits (terms_of catalogue.now) item.now }
     requires callable { F.IsAlwaysCallable layers_of.now }
     requires layers { MakesLayers F.Fn layers_of.now }
     ensures taken { HasFed catalogue.now 1 feeder.old feeder.new }

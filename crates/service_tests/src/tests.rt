@@ -274,20 +274,31 @@ fn served<R: Threads + Wait + Sync, C: Chooser + Sync, G: Gate + Sync>(
         4 => serve_rounds(rt, alloc, limits, 4, &mut source, &mut sink, chooser, gate),
         _ => serve_rounds(rt, alloc, limits, 64, &mut source, &mut sink, chooser, gate),
     };
-    if ended == Status::Done {
-        Ok(sink)
-    } else {
-        Err("a script was not served to its end")?
+    if ended != Status::Done {
+        return Err("a script was not served to its end")?;
     }
+    if finds_no_memory(sink.bytes()) {
+        return Err("a line or a stack found no memory")?;
+    }
+    Ok(sink)
 }
 
 // What answers a script line by line.
 fn plainly(alloc: Global, script: &[u8]) -> Result<MemorySink, Fail> {
     let mut source = piece(alloc, script)?;
     let mut sink = MemorySink::new(alloc, ROOM, ROOM, Vec::new(alloc))?;
-    if run_plain(alloc, Limits::standard(), &mut source, &mut sink) == Status::Done {
-        Ok(sink)
-    } else {
-        Err("a script was not answered to its end")?
+    if run_plain(alloc, Limits::standard(), &mut source, &mut sink) != Status::Done {
+        return Err("a script was not answered to its end")?;
     }
+    if finds_no_memory(sink.bytes()) {
+        return Err("a line or a stack found no memory")?;
+    }
+    Ok(sink)
+}
+
+// Whether an output says of a line or of a stack that it found no memory. These tests have enough of it.
+fn finds_no_memory(output: &[u8]) -> bool {
+    output
+        .split(|byte| *byte == b'\n')
+        .any(|line| line.starts_with(b"memory ") || line.starts_with(b"untidied "))
 }

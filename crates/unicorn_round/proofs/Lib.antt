@@ -19,6 +19,7 @@ mod Lists
 mod Made
 mod MarkReading
 mod Numbers
+mod OneRecord
 mod PartedLines
 mod PartedSteps
 mod PlainLegal

@@ -26,6 +26,8 @@ use Rattle.session_asks.specs.Seats.{AllHaveTaken}
 use Rattle.session_asks.specs.declared.asks.AskLine.{AskLine}
 use Rattle.round_feed.specs.Fed.{IsFed, feed_entries}
 use Rattle.round_feed.specs.Feeds.{Feed, fed_one, made, opening_feed}
+use Rattle.round_feed.specs.Fits.{CompactFits, FeedFits}
+use Rattle.round_feed.proofs.Items.{fit_for_compactions, fit_for_feed}
 use Rattle.round_feed.specs.Seats.{HasCompacted, MayCompact, feed_of, terms_of}
 use Rattle.round_feed.specs.Steps.{after}
 use Rattle.unicorn_round.specs.Answerer.{IsOpened}
@@ -35,6 +37,7 @@ use Rattle.unicorn_round.specs.Told.{AreWithin, stacks_told}
 use Rattle.unicorn_round.proofs.Told.{none_told}
 use Rattle.unicorn_round.specs.Service.{AreNew, IsIdle, IsReady, ServiceStands, service_stacks, service_terms}
 use Rattle.unicorn_round.specs.Stacks.{opening_stacks}
+use Rattle.unicorn_round.specs.Weaving.{compactions, feed_items}
 use Rattle.unicorn_round.specs.Work.{MayAsk, MayTakeCompactions, MayTakeFeed}
 use Rattle.unicorn_round.specs.declared.parts.Parts.{Parts}
 use Rattle.unicorn_round.specs.declared.service.Service.{Service}
@@ -77,14 +80,14 @@ module _ (catalogue : Catalogue) (items : List Item) (parts : Parts) (n : ℕ) w
       → MayTakeFeed catalogue parts.feed feeder
   may_feed feeder of turns few fit parted = record {
     may = record { of = of; few = omega (arith, turns, few, ap (length {A = Item}) parted.feed, few_fed items) };
-    fit = subst (ItemsFit (terms_of catalogue)) (sym parted.feed) (feed_fit (terms_of catalogue) items fit);
+    fit = subst (AllByRecursion (FeedFits (terms_of catalogue))) (sym parted.feed) (fit_for_feed (terms_of catalogue) (feed_items items) (feed_fit (terms_of catalogue) items fit));
   }
 
   pub may_compact : (compactor : Compactor) → IsCompactorOf catalogue compactor → compactor_turns compactor ≤ 8195 * n → n + length items + 1 ≤ 2 ^ 37 → ItemsFit (terms_of catalogue) items → IsParted (terms_of catalogue).limits.sessions items parts
       → MayTakeCompactions catalogue parts.compactions compactor
   may_compact compactor of turns few fit parted = record {
     may = record { of = of; few = omega (arith, turns, few, ap (length {A = Item}) parted.compactions, few_compactions items) };
-    fit = subst (ItemsFit (terms_of catalogue)) (sym parted.compactions) (compactions_fit (terms_of catalogue) items fit);
+    fit = subst (AllByRecursion (CompactFits (terms_of catalogue))) (sym parted.compactions) (fit_for_compactions (terms_of catalogue) (compactions items) (compactions_fit (terms_of catalogue) items fit));
   }
 
   -- and the stacks that are due at the round's end

@@ -1,14 +1,15 @@
 -- What answers tell.
 use Rattle.std.specs.Prelude.{ℕ, ◌≡◌, ◌≤◌, ◌+◌, ◌^◌, List, length, map}
 use Rattle.uni_base.specs.StandardLimits.{IsWithinStandard}
-use Rattle.uni_schema.specs.Schema.{IsSchema}
+use Rattle.uni_base.specs.declared.limits.Limits.{Limits}
+use Rattle.uni_schema.specs.Schema.{Declarations, IsSchema}
 use Rattle.uni_table.specs.Journals.{IsJournal}
 use Rattle.reply_text.specs.Printed.{answers_text}
 use Rattle.script_rounds.specs.Entries.{Entry, line_of}
 use Rattle.script_rounds.specs.Laws.{all_entries}
 use Rattle.script_rounds.specs.RoundReads.{Rise}
-use Rattle.script_rounds.specs.Rounds.{rounds_from}
-use Rattle.script_rounds.specs.Terms.{Terms}
+use Rattle.script_rounds.specs.Rounds.{opened, rounds_from, script_of}
+use Rattle.script_rounds.specs.Terms.{Terms, under}
 use Rattle.unicorn_round.specs.Answers.{answers, after_round, after_rounds, opening_standing}
 use Rattle.unicorn_round.specs.Covers.{RoundRaises}
 use Rattle.round_feed.specs.Feeds.{made}
@@ -34,6 +35,14 @@ pub record AnswersTell : Type 0 where
       → before + length lines ≤ 2 ^ 63
       → (told : Record) → (other : Record) → IsRecord terms rounds told → IsRecord terms rounds other → Legal terms rounds told
       → answers_text terms.schema (answers terms rounds told) ≡ answers_text terms.schema (answers terms rounds other) → told ≡ other
+
+-- At most one legal record of a script has a text: of a script whose header opens, under limits within the
+-- standard ones, and whose bytes are within the limit of a script.
+pub record OneRecordServes : Type 0 where
+  pub one :
+      (limits : Limits) → IsWithinStandard limits → (bytes : List ℕ) → length bytes ≤ limits.script
+      → (schema : Declarations) → (rounds : List (List Entry)) → script_of limits bytes ≡ opened schema rounds
+      → (text : List ℕ) → (one : Serves (under limits schema) rounds text) → (other : Serves (under limits schema) rounds text) → one.told ≡ other.told
 
 -- What rounds publish, for any record of them, is a journal: no change of its batches is refused at its
 -- place, and there are no more batches than the limit of publishes.

@@ -1,8 +1,8 @@
 -- What the feeder, the compactor and the sessions do with the lines of a round.
 use Rattle.std.specs.Prelude.{ℕ, ◌≡◌, ◌*◌, ◌<◌, All, ◌++◌, List, [], length, get_or, Result, IfOk}
+use Rattle.std.specs.List.{AllByRecursion}
 use Rattle.std.proofs.Common.{Vec, Global}
 use Rattle.reply_text.specs.declared.answer.Answer.{Answer}
-use Rattle.script_rounds.specs.Fits.{ItemsFit}
 use Rattle.script_rounds.specs.declared.item.Item.{Item}
 use Rattle.turn_lock.specs.declared.seats.Seat.{Seat}
 use Rattle.version_catalog.specs.Seats.{compactor_installs, compactor_journal, feeder_journal, settings_of}
@@ -16,6 +16,7 @@ use Rattle.session_asks.specs.Seats.{AllHaveTaken, AllMayTake, AllReplied}
 use Rattle.session_asks.specs.declared.asks.AskLine.{AskLine}
 use Rattle.round_feed.specs.Compacted.{AreCompacted, compact_entries, installs_by}
 use Rattle.round_feed.specs.Fed.{IsFed}
+use Rattle.round_feed.specs.Fits.{CompactFits, FeedFits}
 use Rattle.round_feed.specs.Seats.{HasCompacted, HasFed, MayCompact, MayFeed, feed_of, terms_of}
 use Rattle.unicorn_round.specs.declared.parts.Parts.{Parts}
 use Rattle.unicorn_round.specs.declared.round.RoundAnswers.{RoundAnswers}
@@ -23,7 +24,7 @@ use Rattle.unicorn_round.specs.declared.round.RoundAnswers.{RoundAnswers}
 -- a feeder may take lines, and has taken them
 pub record MayTakeFeed (catalogue : Catalogue) (items : List Item) (feeder : Feeder) : Type 0 where
   pub may : MayFeed catalogue (length items) feeder
-  pub fit : ItemsFit (terms_of catalogue) items
+  pub fit : AllByRecursion (FeedFits (terms_of catalogue)) items
 
 pub record FeedDone {E : Type 0} (catalogue : Catalogue) (items : List Item) (old new : Feeder) (result : Result (List Answer) E) : Type 0 where
   pub taken : HasFed catalogue (length items) old new
@@ -32,7 +33,7 @@ pub record FeedDone {E : Type 0} (catalogue : Catalogue) (items : List Item) (ol
 -- a compactor may take lines, and has taken them
 pub record MayTakeCompactions (catalogue : Catalogue) (items : List Item) (compactor : Compactor) : Type 0 where
   pub may : MayCompact catalogue (2 * length items) compactor
-  pub fit : ItemsFit (terms_of catalogue) items
+  pub fit : AllByRecursion (CompactFits (terms_of catalogue)) items
 
 pub record CompactionsDone {E : Type 0} (catalogue : Catalogue) (items : List Item) (old new : Compactor) (result : Result (List Answer) E) : Type 0 where
   pub taken : HasCompacted catalogue (2 * length items) old new

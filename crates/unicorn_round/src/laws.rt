@@ -1,6 +1,6 @@
 //! Laws about definitions, each the contract of a function that does nothing of its own.
 ghost use Rattle.unicorn_round.specs.Counts.{CountsAgree};
-ghost use Rattle.unicorn_round.specs.Laws.{AnswersTell, CompactionsRaise, PlainIsARecord, PlainMayServe, RoundsMakeJournals};
+ghost use Rattle.unicorn_round.specs.Laws.{AnswersTell, CompactionsRaise, OneRecordServes, PlainIsARecord, PlainMayServe, RoundsMakeJournals};
 
 /// Equal answers are those of equal records, and so are answers of one text.
 pub fn answers_tell()
@@ -12,6 +12,15 @@ pub fn answers_tell()
     query_check::laws::faults_stand_in();
     reply_text::laws::lines_are_unbroken();
     reply_text::laws::heads_by_text();
+}
+
+/// Of a script whose bytes are within their limit at most one legal record has a text.
+pub fn one_record_serves()
+    ensures { OneRecordServes }
+{
+    answers_tell();
+    uni_schema::laws::opens_by_text();
+    uni_schema::laws::opened_is_schema();
 }
 
 /// What the rounds of a script publish is a journal.

@@ -34,6 +34,12 @@ const QUESTIONS: &[u8] = b"\
     reply 53 at 1 hits 3|hit 2 via friend:1>2|hit 3 via friend:1>3|hit 5 via friend:1>5|\
     error 54 65|";
 
+// Lines up to the limit of a round, then one too many, which is too long too, and one after it.
+const LONG_AND_MANY: &[u8] = b"\
+    gone 77|gone 77|gone 77|gone 77|gone 77|gone 77|gone 77|gone 77|gone 77|gone 77|gone 77|\
+    gone 77|gone 77|gone 77|gone 77|gone 77|gone 77|gone 77|gone 77|gone 77|gone 77|\
+    ask 9 1 10 (or friend:1 lives:rome tagged|stats|=error 54 64|";
+
 // An id that is known may change its rank in a full table.
 #[test]
 fn tables_have_limits(rt: HostRuntime) -> Result<(), Fail> {
@@ -89,7 +95,9 @@ fn lines_and_rounds_have_limits(rt: HostRuntime) -> Result<(), Fail> {
         round: 21,
         ..Limits::standard()
     };
-    are_answered(&rt, rt.alloc(), round, FIRST, QUESTIONS)
+    are_answered(&rt, rt.alloc(), round, FIRST, QUESTIONS)?;
+    let both = Limits { line: 40, ..round };
+    are_answered(&rt, rt.alloc(), both, FIRST, LONG_AND_MANY)
 }
 
 // The script has 705 bytes.

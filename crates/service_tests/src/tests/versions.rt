@@ -1,7 +1,8 @@
 //! Versions, and the stacks that they are kept in.
 use super::judge::{Verdict, judge};
 use super::{
-    CREWS, FIRST, GRAPH, PUBLISHED, are_answered, are_answered_in_line, rows, served, text,
+    CREWS, FIRST, GRAPH, PUBLISHED, are_answered, are_answered_in_line, is_answered, rows, served,
+    text,
 };
 use std::alloc::Global;
 use std::sync::Wait;
@@ -137,6 +138,25 @@ fn replies_with_their_hits(alloc: Global, output: &[u8]) -> Result<u64, Fail> {
 fn script_of(alloc: Global, table: &[u8]) -> Result<Text, Fail> {
     let (lines, _) = cut_at(table, b'=').ok_or("no row")?;
     text(alloc, &[FIRST, GRAPH, lines])
+}
+
+// Four replicas of one shard, which are due one round after the other.
+const REPLICAS: &[u8] = b"\
+    unicorn 1|vertical user 1 4|begin|\
+    entity user 1 5|publish|publish|publish|publish|publish|publish|publish|publish|go|\
+    publish|go|publish|go|publish|stats|go|";
+
+const TIDIED: &[u8] = b"\
+    published 5 1|published 6 2|published 7 3|published 8 4|\
+    published 9 5|published 10 6|published 11 7|published 12 8|tidied user 0 0 8|\
+    published 14 9|tidied user 0 1 9|published 16 10|tidied user 0 2 10|\
+    published 18 11|stats 19 at 11 stacks 4|\
+    stack user 0 0 layers 4|stack user 0 1 layers 3|stack user 0 2 layers 2|\
+    stack user 0 3 layers 1|tidied user 0 3 11|";
+
+#[test]
+fn replicas_are_tidied_one_by_one(rt: HostRuntime) -> Result<(), Fail> {
+    is_answered(&rt, rt.alloc(), Limits::standard(), &[REPLICAS], &[TIDIED], 0)
 }
 
 #[test]

@@ -20,13 +20,17 @@ const HIDDEN: &[u8] = b"\
     ask 9 1 10 (apply tagged: friend:1)|=\
     published 35 2|reply 37 at 2 hits 1|hit 101 via tagged:2>101 friend:1>2|";
 
-// The friends of 5 may see that 2 is a friend of 1. Then 3 blocks 9.
+// The friends of 5, or those who live in Rome, may see that 2 is a friend of 1. Then 3 blocks 9.
 const CIRCLES: &[u8] = b"\
     edge friend 5 6 only|edge friend 1 2 in:friend:5|publish|go|\
     ask 6 1 10 friend:1|ask 9 1 10 friend:1|=\
     published 35 2|\
     reply 37 at 2 hits 3|hit 2 via friend:1>2|hit 3 via friend:1>3|hit 5 via friend:1>5|\
     reply 38 at 2 hits 2|hit 3 via friend:1>3|hit 5 via friend:1>5|;\
+    edge friend 1 2 in:lives:rome|publish|go|ask 6 1 10 friend:1|ask 9 1 10 friend:1|=\
+    published 34 2|\
+    reply 36 at 2 hits 3|hit 2 via friend:1>2|hit 3 via friend:1>3|hit 5 via friend:1>5|\
+    reply 37 at 2 hits 2|hit 3 via friend:1>3|hit 5 via friend:1>5|;\
     entity user 9 1|edge blocked 3 9 public|publish|go|\
     ask 9 1 10 friend:1|ask 1 2 10 friend:1|=\
     published 35 2|\

@@ -2,13 +2,14 @@ use Rattle.std.proofs.Common.{length}
 use Rattle.version_catalog.specs.Seats.{compactor_installs, compactor_journal}
 use Rattle.round_feed.specs.Seats.{terms_of}
 use Rattle.round_feed.proofs.Compacting.{compacted_next, installs_next}
+use Rattle.round_feed.specs.Fits.{CompactFits}
 use Rattle.round_feed.proofs.Items.{item_fits}
 use Rattle.round_feed.proofs.Seated.{compacted_more}
 use Rattle.round_feed.proofs.compactions.compact_round.Goals as goal
 
 pub compact_line-answer-requires-clause-fits : goal.compact_line-answer-requires-clause-fits
 compact_line-answer-requires-clause-fits g c =
-    item_fits (terms_of c.args.catalogue.now) c.args.items.now c.as_slice-item-items.result.now c.loop-item.item-index c.item-item.result c.as_slice-item-items.ensures c.requires.fit
+    item_fits (CompactFits (terms_of c.args.catalogue.now)) c.args.items.now c.as_slice-item-items.result.now c.loop-item.item-index c.item-item.result c.as_slice-item-items.ensures c.requires.fit
     c.loop-item-test.true c.item-item.is
 
 pub loop-item-preserved : goal.loop-item-preserved

@@ -1,12 +1,13 @@
 use Rattle.round_feed.specs.Seats.{feed_of, terms_of}
 use Rattle.round_feed.proofs.Feeding.{is_fed_next}
+use Rattle.round_feed.specs.Fits.{FeedFits}
 use Rattle.round_feed.proofs.Items.{item_fits}
 use Rattle.round_feed.proofs.Seated.{fed_more}
 use Rattle.round_feed.proofs.feed.feed_items.Goals as goal
 
 pub feed_line-answer-requires-clause-fits : goal.feed_line-answer-requires-clause-fits
 feed_line-answer-requires-clause-fits g c =
-    item_fits (terms_of c.args.catalogue.now) c.args.items.now c.as_slice-item-items.result.now c.loop-item.item-index c.item-item.result c.as_slice-item-items.ensures c.requires.fit
+    item_fits (FeedFits (terms_of c.args.catalogue.now)) c.args.items.now c.as_slice-item-items.result.now c.loop-item.item-index c.item-item.result c.as_slice-item-items.ensures c.requires.fit
     c.loop-item-test.true c.item-item.is
 
 pub loop-item-preserved : goal.loop-item-preserved
