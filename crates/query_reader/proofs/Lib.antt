@@ -15,6 +15,8 @@ pub mod Complete
 pub mod TextLaws
 pub mod Continued
 pub mod FirstFault
+pub mod Outlined
+pub mod FaultCodes
 pub mod Near
 pub mod Bytes
 pub mod AtomForms

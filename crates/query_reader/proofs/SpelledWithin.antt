@@ -37,7 +37,7 @@ use Rattle.query_reader.proofs.Balance.{opened, most-first, most-append, balance
 use Rattle.query_reader.proofs.Segments.{kind-is, parts}
 
 -- each token has the kind of its bytes
-abbrev AreFormed : ℕ → List Lexeme → Type 0
+abbrev pub AreFormed : ℕ → List Lexeme → Type 0
 AreFormed format [] = Unit {0}
 AreFormed format (token ∷ others) = (kind_of format token.bytes ≡ Some token.kind) × AreFormed format others
 
@@ -54,7 +54,7 @@ formed format kind bytes rest (a_left is_left is_bytes) = ap (kind_of format) is
 formed format kind bytes rest (a_right is_right is_bytes) = ap (kind_of format) is_bytes ∙ ap Some (sym is_right)
 formed format kind bytes rest (an_atom run form) = kind-is format bytes rest kind run form
 
-lexemes_formed : (format : ℕ) (whole : List ℕ) (at : ℕ) (text : List ℕ) (tokens : List Token) (After : ℕ → List ℕ → Type 0) → drop at whole ≡ text
+pub lexemes_formed : (format : ℕ) (whole : List ℕ) (at : ℕ) (text : List ℕ) (tokens : List Token) (After : ℕ → List ℕ → Type 0) → drop at whole ≡ text
     → HasTokens format at text tokens After → AreFormed format (map (lexeme_of whole) tokens)
 lexemes_formed format whole at text [] After is_here spans = tt
 lexemes_formed format whole at text (token ∷ others) After is_here (gap, (bytes, (rest, (is_text, spaces, is_from, is_to, is_token, are_others)))) =
@@ -68,14 +68,14 @@ lexemes_formed format whole at text (token ∷ others) After is_here (gap, (byte
     (ap (kind_of format) are_bytes ∙ formed format token.kind bytes rest is_token, lexemes_formed format whole token.to rest others After to_here are_others)
 
 -- the kinds of atoms that begin with a type's name
-abbrev HasName : TokenKind → Type 0
+abbrev pub HasName : TokenKind → Type 0
 HasName kinds.Term = Unit {0}
 HasName kinds.Stem = Unit {0}
 HasName kinds.Prefix = Unit {0}
 HasName kind = ⊥
 
 -- such an atom is neither a parenthesis nor a name nor a number
-neither : (one two three four : Bool) (kind : TokenKind) (other : Option TokenKind) → HasName kind
+pub neither : (one two three four : Bool) (kind : TokenKind) (other : Option TokenKind) → HasName kind
     → cond one (Some kinds.Left) (cond two (Some kinds.Right) (cond three (Some kinds.Name) (cond four (Some kinds.Number) other))) ≡ Some kind
     → other ≡ Some kind
 neither true two three four kind other named is_kind =
@@ -92,7 +92,7 @@ no_slash : (kind : TokenKind) (fraction : Bool) → HasName kind → cond fracti
 no_slash kind true named is_kind = let same : kinds.Fraction ≡ kind = cc in absurd (subst HasName (sym same) named)
 no_slash kind false named is_kind = absurd (cc)
 
-no_slash_kind : (kind : TokenKind) (slash : Option (List ℕ × List ℕ)) → HasName kind → slash_kind slash ≡ Some kind → ⊥
+pub no_slash_kind : (kind : TokenKind) (slash : Option (List ℕ × List ℕ)) → HasName kind → slash_kind slash ≡ Some kind → ⊥
 no_slash_kind kind None named is_kind = absurd (cc)
 no_slash_kind kind (Some halves) named is_kind = no_slash kind (is_number halves.0 && is_number halves.1) named is_kind
 

@@ -1,6 +1,6 @@
 -- The worked texts, by computation.
 use Rattle.std.proofs.Common.{refl}
-use Rattle.query_reader.specs.Examples.{WorkedFaults, WorkedFormats, WorkedQueries}
+use Rattle.query_reader.specs.Examples.{WorkedFaults, WorkedFormats, WorkedQueries, WorkedCodes}
 
 pub worked_faults : WorkedFaults
 worked_faults = record {
@@ -42,4 +42,24 @@ worked_queries = record {
   a_join = refl;
   a_join_without_limit = refl;
   a_join_under_a_small_limit = refl;
+}
+
+pub worked_codes : WorkedCodes
+worked_codes = record {
+  no_node = refl;
+  option_for_a_leaf = refl;
+  option_for_a_prefix = refl;
+  more = refl;
+  no_operator = refl;
+  one_operand = refl;
+  two_operands = refl;
+  third_operand = refl;
+  no_limit = refl;
+  limit_in_a_join = refl;
+  second_limit = refl;
+  weight_after_a_count = refl;
+  no_value = refl;
+  after_a_value = refl;
+  too_deep = refl;
+  too_many_nodes = refl;
 }

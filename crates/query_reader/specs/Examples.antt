@@ -1,5 +1,5 @@
 -- Texts with their queries and first faults, by computation.
-use Rattle.std.specs.Prelude.{ℕ, ◌≡◌, List, codes, Ok, Err}
+use Rattle.std.specs.Prelude.{ℕ, ◌≡◌, List, [], ◌∷◌, map, codes, Option, Some, None, Result, Ok, Err}
 use Rattle.uni_base.specs.StandardLimits.{standard_limits}
 use Rattle.query_tree.specs.declared.dialect.Dialect.{Dialect}
 use Rattle.query_tree.specs.declared.kind.TermKind.TheVariants.{Whole, Prefix}
@@ -8,7 +8,10 @@ use Rattle.query_tree.specs.declared.kind.JoinKind.TheVariants.{Apply}
 use Rattle.query_tree.specs.declared.query.Mark.TheVariants.{Plain, Hits, Weight}
 use Rattle.query_tree.specs.Dialects.{dialect_of}
 use Rattle.query_tree.specs.Tree.{Tree, term_at, list_at, join_at, no_operands, with_operand}
-use Rattle.query_reader.specs.Reading.{text_read}
+use Rattle.query_reader.specs.declared.token.Token.{Token}
+use Rattle.query_reader.specs.Tokens.{text_tokens}
+use Rattle.query_reader.specs.Reading.{Lexeme, lexeme_of, text_read}
+use Rattle.query_reader.specs.FaultCodes.{Outline, nothing, code_at, with_tokens}
 
 -- a format under the standard limits
 abbrev pub standard : ℕ → Dialect
@@ -78,3 +81,35 @@ pub record WorkedQueries : Type 0 where
   pub a_join_under_a_small_limit :
       text_read (record (standard 1) { join_limit = 5 }) (codes "(apply tagged: friend:1)")
       ≡ Ok (join_at 1 Apply 8 (codes "tagged") 5 (term_at 16 Whole (codes "friend") (codes "1")))
+
+-- the code of a text's first token, by another text before it
+abbrev pub lexemes : Result (List Token) ℕ → List ℕ → List Lexeme
+lexemes (Ok lexed) text = map (lexeme_of text) lexed
+lexemes (Err column) text = []
+
+abbrev pub first_code : Dialect → Outline → List Lexeme → Option ℕ
+first_code dialect outline [] = None
+first_code dialect outline (token ∷ others) = code_at dialect outline token
+
+abbrev pub code_after : Dialect → List ℕ → List ℕ → Option ℕ
+code_after dialect front back =
+    first_code dialect (with_tokens nothing (lexemes (text_tokens dialect.format front) front)) (lexemes (text_tokens dialect.format back) back)
+
+-- codes of tokens by what is written before them, each but 32, which no token has
+pub record WorkedCodes : Type 0 where
+  pub no_node : code_after (standard 1) (codes "(and friend:1") (codes "rome") ≡ Some 31
+  pub option_for_a_leaf : code_after (standard 1) (codes "(term") (codes ":limit") ≡ Some 31
+  pub option_for_a_prefix : code_after (standard 1) (codes "(apply") (codes ":limit") ≡ Some 35
+  pub more : code_after (standard 1) (codes "(or friend:1)") (codes ")") ≡ Some 33
+  pub no_operator : code_after (standard 1) (codes "(or (") (codes "friend:1") ≡ Some 34
+  pub one_operand : code_after (standard 1) (codes "(difference friend:1") (codes ")") ≡ Some 35
+  pub two_operands : code_after (standard 1) (codes "(difference friend:1 (or friend:2)") (codes ")") ≡ None
+  pub third_operand : code_after (standard 1) (codes "(difference friend:1 (or friend:2)") (codes "(") ≡ Some 35
+  pub no_limit : code_after (standard 1) (codes "(or friend:1") (codes ":limit") ≡ Some 36
+  pub limit_in_a_join : code_after (standard 1) (codes "(or (apply tagged: friend:1") (codes ":limit") ≡ None
+  pub second_limit : code_after (standard 1) (codes "(or (apply tagged: friend:1 :limit 7") (codes ":limit") ≡ Some 36
+  pub weight_after_a_count : code_after (standard 2) (codes "(weak-and (term friend:1 :optional-hits 0") (codes ":optional-weight") ≡ Some 36
+  pub no_value : code_after (standard 1) (codes "(apply tagged: friend:1 :limit") (codes "0") ≡ Some 36
+  pub after_a_value : code_after (standard 1) (codes "(apply tagged: friend:1 :limit 7") (codes "friend:2") ≡ Some 36
+  pub too_deep : code_after (record (standard 1) { depth = 2; nodes = 2 }) (codes "(or (or") (codes "(") ≡ Some 37
+  pub too_many_nodes : code_after (record (standard 1) { nodes = 3 }) (codes "(or (term friend:1) friend:2") (codes "(") ≡ Some 38

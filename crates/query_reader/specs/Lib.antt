@@ -10,6 +10,7 @@ pub mod Seen
 pub mod Grammar
 pub mod TextLaws
 pub mod FirstFault
+pub mod FaultCodes
 pub mod Near
 pub mod PrintLaws
 pub mod Examples

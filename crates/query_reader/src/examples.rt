@@ -1,5 +1,5 @@
 //! Worked texts with their queries and faults, each the contract of a function that does nothing.
-ghost use Rattle.query_reader.specs.Examples.{WorkedFaults, WorkedFormats, WorkedQueries};
+ghost use Rattle.query_reader.specs.Examples.{WorkedCodes, WorkedFaults, WorkedFormats, WorkedQueries};
 
 /// First faults, from `(and friend:1 Rome)` on.
 #[tactic(auto, using(crate::proofs::Worked::worked_faults))]
@@ -17,4 +17,10 @@ pub fn worked_formats()
 #[tactic(auto, using(crate::proofs::Worked::worked_queries))]
 pub fn worked_queries()
     ensures { WorkedQueries }
+{}
+
+/// Codes of tokens by what is written before them.
+#[tactic(auto, using(crate::proofs::Worked::worked_codes))]
+pub fn worked_codes()
+    ensures { WorkedCodes }
 {}

@@ -1,4 +1,5 @@
 //! Laws about definitions, each the contract of a function that does nothing.
+ghost use Rattle.query_reader.specs.FaultCodes.{FaultHasItsCode};
 ghost use Rattle.query_reader.specs.FirstFault.{FaultIsFirst};
 ghost use Rattle.query_reader.specs.Near.{FaultsAreNear};
 ghost use Rattle.query_reader.specs.PrintLaws.{PrintIsRead};
@@ -22,6 +23,13 @@ pub fn tokens_are_runs()
 #[tactic(auto, using(crate::proofs::FirstFault::fault_is_first))]
 pub fn fault_is_first()
     ensures { FaultIsFirst }
+{}
+
+/// The first fault stands at the first token that has a code after what is written before it, and has
+/// that code; or at the end with 32.
+#[tactic(auto, using(crate::proofs::FaultCodes::fault_has_its_code))]
+pub fn fault_has_its_code()
+    ensures { FaultHasItsCode }
 {}
 
 /// The first fault has a code of the grammar and stands in the text or right after it; what is read of a
