@@ -2,7 +2,7 @@
 use Rattle.std.proofs.Common.{◌≡◌, ℕ, ◌+◌, ◌==◌, ◌&&◌, Bool, true, false, cond, List, [], ◌∷◌, ◌++◌, length, map, Option, None, Some, is_some, Result, Ok, Err, refl, sym, ap, ◌∙◌, subst, arith, ◌⊎◌, inl, inr}
 use Rattle.std.proofs.lemmas.Bool.{and_parts}
 use Rattle.std.specs.Option.{option_map, option_or}
-use Rattle.uni_base.specs.Words.{is_word, starts_with_letter}
+use Rattle.uni_base.specs.Words.{is_word, starts_with_letter, is_name}
 use Rattle.uni_base.specs.Numbers.{is_number}
 use Rattle.uni_base.specs.Fields.{cut_at}
 use Rattle.query_tree.specs.declared.dialect.Dialect.{Dialect}
@@ -10,7 +10,7 @@ use Rattle.query_tree.specs.declared.kind.TermKind.TheVariants as terms
 use Rattle.query_tree.specs.Tree.{Tree}
 use Rattle.query_reader.specs.declared.token.TokenKind.{TokenKind}
 use Rattle.query_reader.specs.declared.token.TokenKind.TheVariants as kinds
-use Rattle.query_reader.specs.Atoms.{is_name, is_empty, starred_word, colon_kind, slash_kind}
+use Rattle.query_reader.specs.Atoms.{is_empty, starred_word, colon_kind, slash_kind}
 use Rattle.query_reader.specs.Tokens.{kind_of}
 use Rattle.query_reader.specs.Spans.{AreSpaces}
 use Rattle.query_reader.specs.Reading.{Lexeme, Refused, State, start, both_words, front_word, step, ended, go_on, read_from, lexeme_of, tokens_read}
