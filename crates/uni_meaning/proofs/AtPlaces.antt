@@ -1,5 +1,5 @@
 -- What is read at the places of lists.
-use Rattle.std.proofs.Common.{◌≡◌, ℕ, zero, suc, ◌+◌, Bool, true, false, eqb, ◌==◌, ◌&&◌, if◌then◌else◌, List, [], ◌∷◌, ◌++◌, Some, ◌||◌, ◌<◌, refl, sym, ◌∙◌, ap, append_assoc, append-nil, arith, drop, drop-cons, get_or, length, slice_get}
+use Rattle.std.proofs.Common.{◌≡◌, ℕ, zero, suc, ◌+◌, Bool, true, false, eqb, ◌&&◌, if◌then◌else◌, List, [], ◌∷◌, ◌++◌, Some, ◌||◌, ◌<◌, refl, sym, ◌∙◌, ap, append_assoc, append-nil, arith, drop, drop-cons, get_or, length, slice_get}
 use Rattle.std.specs.List.{flat_map, list_any, range_with_len, starts_with}
 use Rattle.uni_schema.specs.declared.schema.TypeDef.{TypeDef}
 use Rattle.uni_meaning.specs.Policy.{denials_from}
@@ -15,9 +15,6 @@ at_drop (y ∷ xs) (suc n) x e = let more : suc (n + 1) ≡ suc n + 1 = omega ar
 pub denials_step : (types : List TypeDef) (n : ℕ) (def : TypeDef) → slice_get types n ≡ Some def
     → denials_from n (drop n types) ≡ (if def.deny then n ∷ denials_from (n + 1) (drop (n + 1) types) else denials_from (n + 1) (drop (n + 1) types))
 denials_step types n def e = ap (denials_from n) (at_drop types n def e)
-
-same_byte : (b c : ℕ) → (b == c) ≡ eqb b c
-same_byte b c = refl
 
 pub begins_is : (from text : List ℕ) → starts_with eqb text from ≡ begins_with from text
 begins_is [] text = refl

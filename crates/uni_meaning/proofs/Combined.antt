@@ -1,5 +1,5 @@
 -- How standings combine.
-use Rattle.std.proofs.Common.{◌≡◌, refl, sym, ap, append_assoc}
+use Rattle.std.proofs.Common.{◌≡◌, refl}
 use Rattle.uni_meaning.specs.Standings.{either, both}
 use Rattle.uni_meaning.specs.declared.standing.Standing.{Standing}
 use Rattle.uni_meaning.specs.declared.standing.Standing.TheVariants.{Missed, Hidden, Shown}
@@ -22,12 +22,3 @@ either_assoc Hidden (Shown edges) c = refl
 either_assoc Hidden Hidden Missed = refl
 either_assoc Hidden Hidden Hidden = refl
 either_assoc Hidden Hidden (Shown edges) = refl
-
-pub both_assoc : (a b c : Standing) → both a (both b c) ≡ both (both a b) c
-both_assoc Missed b c = refl
-both_assoc Hidden b c = refl
-both_assoc (Shown edges) Missed c = refl
-both_assoc (Shown edges) Hidden c = refl
-both_assoc (Shown edges) (Shown more) Missed = refl
-both_assoc (Shown edges) (Shown more) Hidden = refl
-both_assoc (Shown edges) (Shown more) (Shown last) = ap Shown (sym (append_assoc edges more last))

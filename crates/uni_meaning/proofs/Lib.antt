@@ -3,7 +3,9 @@ pub mod Combined
 mod Cuts
 pub mod Exact
 pub mod FirstFound
+pub mod FirstIsShown
 pub mod Firsts
+pub mod Homes
 pub mod Led
 pub mod Light
 mod ListStandings
@@ -16,6 +18,7 @@ mod AtPlaces
 pub mod Stands
 pub mod SeenNodes
 mod SetStandings
+pub mod SpelledOut
 mod StandingOf
 mod TermCuts
 pub mod Typed

@@ -112,9 +112,6 @@ module _ (v : Viewed) where
       first_of-row v plans x ∙ ap (λ c. if c then shown_as (shown_under_one v.schema v.contents v.viewer plans x) else Missed) (found refl ∙ sym e)
   walk_standing StrongOr plans x walk false e found = ap (λ c. if c then shown_as (shown_under_one v.schema v.contents v.viewer plans x) else Missed) (sym e)
 
-  any_bool : (bs : List Bool) → Bool
-  any_bool bs = list_any (λ b. b) bs
-
   any_found : (row : List Standing) → list_any (λ b. b) (map is_found row) ≡ list_any is_found row
   any_found [] = refl
   any_found (s ∷ row) = ap (λ b. is_found s || b) (any_found row)

@@ -425,9 +425,6 @@ module _ (v : Viewed) (limits : Limits) (kept : IsKept v.schema limits v.content
       by true f = let clash : true ≡ false = sym (touched edge (from_is edge f).to) ∙ e in absurd cc
       by false f = refl
 
-  es : List (EdgeRef × EdgeRow)
-  es = v.contents.edges
-
   first_is_same : first_given (λ (held : Held). option_map one_edge (shown held.edge)) (touching v.contents x.id) ≡ option_map one_edge (first_given seen (prefix_keys v.contents number from))
   first_is_same =
       given-after (λ (held : Held). shown held.edge) one_edge (touching v.contents x.id)
@@ -442,9 +439,6 @@ module _ (v : Viewed) (limits : Limits) (kept : IsKept v.schema limits v.content
     where
       here : (text : List ℕ) (found : EdgeRef) → seen text ≡ Some found → Contains (keys_of v.contents.edges) (edge_of text)
       here text found s = there_is (edge_of text) (own_target (edge_of text) text refl) (seen_is text found s).there
-
-  leads : List ℕ → Bool
-  leads word = leads_to v.contents number (Word word) x
 
   any_is_same : list_any (λ (held : Held). is_from number from x.id held.edge) (touching v.contents x.id) ≡ list_any (λ word. leads_to v.contents number (Word word) x) (prefix_keys v.contents number from)
   unfolding edge_of

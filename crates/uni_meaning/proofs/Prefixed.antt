@@ -13,9 +13,10 @@ use Rattle.uni_table.specs.Contents.{Contents}
 use Rattle.uni_table.specs.Ranked.{ranked}
 use Rattle.uni_table.proofs.Listed.{none_in_nil, first_or_later, first_is, later_is}
 use Rattle.uni_meaning.specs.Hits.{edge_to, is_among, leads_to, operands, target_of}
-use Rattle.uni_meaning.specs.Laws.{PrefixIsOr, terms_of}
+use Rattle.uni_meaning.specs.Laws.{PrefixIsOr}
 use Rattle.uni_meaning.specs.Lineages.{under_one}
 use Rattle.uni_meaning.specs.Prefixes.{prefix_keys}
+use Rattle.uni_meaning.specs.SpelledOut.{terms_of}
 
 -- filters by tests that agree on the items of a list leave the same
 pub agreed : (p q : DocKey → Bool) (xs : List DocKey) → ((x : DocKey) → Contains xs x → p x ≡ q x) → filter p xs ≡ filter q xs

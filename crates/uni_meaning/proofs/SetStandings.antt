@@ -10,7 +10,7 @@ use Rattle.uni_schema.specs.Schema.{shard_of}
 use Rattle.uni_table.specs.Ranked.{ranked}
 use Rattle.query_tree.specs.declared.kind.ListKind.{ListKind}
 use Rattle.query_tree.specs.declared.kind.ListKind.TheVariants.{And, Or, Difference, WeakAnd, StrongOr}
-use Rattle.query_check.specs.Plan.{Plan, Plans, list_plan, no_plans, with_plan}
+use Rattle.query_check.specs.Plan.{Plans, list_plan, no_plans, with_plan}
 use Rattle.query_check.specs.Verticals.{AreOf, IsOf}
 use Rattle.uni_meaning.specs.Firsts.{first_shown, joined, shown_under_each, shown_under_having, shown_under_one, shown_under_first}
 use Rattle.uni_meaning.specs.Hits.{first_alone, first_vertical, hits, is_among, is_hit, operands}
@@ -47,12 +47,6 @@ module _ (v : Viewed) where
   abbrev pub row_of : Plans → DocKey → List Standing
   row_of no_plans x = []
   row_of (with_plan plan mark others) x = standing_of v plan x ∷ row_of others x
-
-  first : Plan → DocKey → Option (List EdgeRef)
-  first plan x = first_shown v.schema v.contents v.viewer plan x
-
-  hit : Plan → DocKey → Bool
-  hit plan x = is_hit v.schema v.contents plan x
 
   -- where none has the entity, nothing is asked of any
   none_having : (plans : Plans) (x : DocKey) → list_any is_found (row_of plans x) ≡ false → shown_under_having v.schema v.contents v.viewer plans x ≡ Some []
@@ -158,9 +152,6 @@ module _ (v : Viewed) where
 
   -- the operands of a list, each of one vertical, have an entity in its shard exactly where it stands so
   module _ (vertical : ℕ) (x : DocKey) where
-    shard : ℕ
-    shard = shard_of v.schema vertical x.id
-
     abbrev has_of : Plans → List Bool
     has_of no_plans = []
     has_of (with_plan plan mark others) = is_among (hits v.schema v.contents plan (shard_of v.schema vertical x.id)) x ∷ has_of others

@@ -43,12 +43,6 @@ module _ (v : Viewed) where
       by false c = refl
 
   module _ (kind : JoinKind) (number limit : ℕ) (plan : Plan) (x : DocKey) where
-    ys : List DocKey
-    ys = cut v.schema v.contents plan limit
-
-    edge_from : DocKey → EdgeRef
-    edge_from y = edge_to number (Id y.id) x.id
-
     -- what is shown through a member of the cut
     shown_through : DocKey → Option (List EdgeRef)
     shown_through y = option_and_then (λ edge. option_map (λ rest. edge ∷ rest) (first_shown v.schema v.contents v.viewer plan y)) (seen_edge v.schema v.contents v.viewer number (Id y.id) x)

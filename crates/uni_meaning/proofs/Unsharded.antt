@@ -45,7 +45,8 @@ use Rattle.uni_meaning.specs.Viewed.{Viewed}
 use Rattle.uni_meaning.specs.declared.reply.Hit.{Hit}
 use Rattle.uni_meaning.specs.declared.standing.Standing.{Standing}
 use Rattle.uni_meaning.proofs.Cuts.{hits_are}
-use Rattle.uni_meaning.proofs.Led.{found_hit, in_first, of_first}
+use Rattle.uni_meaning.proofs.Homes.{in_first}
+use Rattle.uni_meaning.proofs.Led.{found_hit, of_first}
 use Rattle.uni_meaning.proofs.Members.{is_left, left_by}
 use Rattle.uni_meaning.proofs.Prefixed.{agreed, among_left}
 use Rattle.uni_meaning.proofs.SetStandings.{is_all, is_alone, is_any, row_of}
@@ -219,7 +220,7 @@ given_agreed : {X Y : Type 0} (f g : X → Option Y) (xs : List X) → ((x : X) 
 given_agreed f g [] agree = refl
 given_agreed f g (x ∷ xs) agree = let rest = given_agreed f g xs (λ y h. agree y (later_is x xs y h)) in λ i. option_or (agree x (first_is x xs) i) (rest i)
 
-map_agreed : {X Y : Type 0} (f g : X → Option Y) (xs : List X) → ((x : X) → Contains xs x → f x ≡ g x) → filter_map f xs ≡ filter_map g xs
+pub map_agreed : {X Y : Type 0} (f g : X → Option Y) (xs : List X) → ((x : X) → Contains xs x → f x ≡ g x) → filter_map f xs ≡ filter_map g xs
 map_agreed f g [] agree = refl
 map_agreed f g (x ∷ xs) agree = let rest = map_agreed f g xs (λ y h. agree y (later_is x xs y h)) in λ i. cons_option (agree x (first_is x xs) i) (rest i)
 

@@ -6,9 +6,8 @@ use Rattle.std.specs.List.{list_any}
 use Rattle.std.specs.Option.{option_map_or}
 use Rattle.query_tree.specs.declared.kind.ListKind.{ListKind}
 use Rattle.query_tree.specs.declared.kind.ListKind.TheVariants.{And, Or, Difference, WeakAnd, StrongOr}
-use Rattle.uni_meaning.specs.Hits.{quota_of}
 use Rattle.uni_meaning.specs.Standings.{hit_by, is_found, row_at}
-use Rattle.uni_meaning.specs.Walking.{Paces, IsPace, advanced, all_allow, allows, before_all, counted, counted_from, entered, fresh_counters, has_at, pace_keeps, walk_keeps, walk_standings, walkers_from}
+use Rattle.uni_meaning.specs.Walking.{Paces, IsPace, advanced, all_allow, counted, counted_from, entered, fresh_counters, has_at, pace_keeps, walk_keeps, walk_standings, walkers_from}
 use Rattle.uni_meaning.specs.declared.column.Column.{Column}
 use Rattle.uni_meaning.specs.declared.pace.Counter.{Counter}
 use Rattle.uni_meaning.specs.declared.place.Place.{Place}
@@ -40,15 +39,6 @@ module _ (row : List Standing) where
   -- a walk keeps an entity exactly if some operand has it and all let it
   pub keeps_is : (kind : ListKind) (kept : ℕ) (counters : List Counter) → length counters ≡ length row → walk_keeps kind kept (walkers_from 0 counters) row ≡ (list_any is_found row && all_allow kind kept (walkers_from 0 counters) row)
   keeps_is kind kept counters e = by_kind kind kept counters ∙ ap (λ b. b && all_allow kind kept (walkers_from 0 counters) row) (some_found 0 counters (omega (arith, e)))
-
-  -- one operand more
-  pub allow_more : (kind : ListKind) (kept : ℕ) (counters : List Counter) (j : ℕ) (c : Counter) → j < length counters → get_or counters j c ≡ c
-      → all_allow kind kept (walkers_from j (drop j counters)) row ≡ (allows kind kept (quota_of c.mark) c.own (has_at j row) && all_allow kind kept (walkers_from (j + 1) (drop (j + 1) counters)) row)
-  allow_more kind kept counters j c within is =
-      let next : suc j ≡ j + 1 = omega arith in
-      ap (λ (cs : List Counter). all_allow kind kept (walkers_from j cs) row) (drop-cons counters j c within)
-      ∙ ap (λ (x : Counter). allows kind kept (quota_of x.mark) x.own (has_at j row) && all_allow kind kept (walkers_from (j + 1) (drop (suc j) counters)) row) is
-      ∙ ap (λ n. allows kind kept (quota_of c.mark) c.own (has_at j row) && all_allow kind kept (walkers_from (j + 1) (drop n counters)) row) next
 
   counted-push : (j : ℕ) (cs : List Counter) (c : Counter) → counted_from j row (cs ++ c ∷ []) ≡ counted_from j row cs ++ counted (has_at (length cs + j) row) c ∷ []
   counted-push j [] c = let e : j ≡ 0 + j = omega arith in ap (λ n. counted (has_at n row) c ∷ []) e
@@ -163,7 +153,3 @@ module _ (kind : ListKind) (columns : List Column) (pace : Paces) (i : ℕ) (pla
 pub going_by : (row : List Standing) (operands seen : ℕ) (pace : Paces) (b : Bool) → IsPace operands seen pace → IsPace operands (seen + 1) (if b then advanced row pace else pace)
 going_by row operands seen pace true is = going_on row operands seen pace is
 going_by row operands seen pace false is = going_past operands seen pace is
-
--- before the first shard no walk has begun
-pub at_start : (operands : ℕ) → IsPace operands 0 before_all
-at_start operands = record { count = inl refl; owns = λ k d within. absurd (omega (arith, within)); kept = omega arith }

@@ -127,9 +127,6 @@ module _ (kind : ListKind) (columns : List Column) (f : DocKey → List Standing
         from_start : (xs : List DocKey) → docs shard ≡ xs → RowsAre i (map (placed shard) xs ++ qs)
         from_start xs e = subst (λ (ds : List DocKey). RowsAre i (map (placed shard) ds ++ qs)) e rows
 
-        start : Paces
-        start = pace_in shard 0 (fresh_counters columns)
-
         told : (xs : List DocKey) → docs shard ≡ xs → seg kind f 0 (fresh_counters columns) xs ≡ map by_walk (map (placed shard) xs)
         told xs e = subst (λ (ds : List DocKey). seg kind f 0 (fresh_counters columns) ds ≡ map by_walk (map (placed shard) ds)) e
             (seg_is kind f 0 (fresh_counters columns) (os shard) (docs shard) (alike shard) (apart shard) (agrees shard) ∙ sym (map-placed shard (docs shard)))

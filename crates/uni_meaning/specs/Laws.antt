@@ -3,7 +3,6 @@ use Rattle.std.specs.Prelude.{ℕ, ◌≡◌, ◌↔◌, ◌++◌, ◌+◌, ◌-
 use Rattle.std.specs.List.{Contains, list_all, list_any}
 use Rattle.uni_base.specs.Walks.{Quota, Unmarked, Count, Weight, Walker, weak_walk}
 use Rattle.uni_base.specs.declared.edge.EdgeRef.{EdgeRef}
-use Rattle.uni_base.specs.declared.edge.Key.TheVariants.{Word}
 use Rattle.uni_base.specs.declared.entity.DocKey.{DocKey}
 use Rattle.uni_base.specs.declared.limits.Limits.{Limits}
 use Rattle.uni_schema.specs.Schema.{Declarations, IsSchema, shard_of}
@@ -16,11 +15,12 @@ use Rattle.query_tree.specs.declared.query.Mark.TheVariants.{Plain}
 use Rattle.query_check.specs.Verticals.{IsOf}
 use Rattle.query_check.specs.Plan.{Plan, Plans, term_plan, prefix_plan, list_plan, join_plan, no_plans, with_plan}
 use Rattle.uni_meaning.specs.Firsts.{first_given, first_shown}
-use Rattle.uni_meaning.specs.Hits.{hits, is_hit, target_of}
-use Rattle.uni_meaning.specs.Lineages.{IsLineage, lineages}
+use Rattle.uni_meaning.specs.Hits.{cut, hits, is_hit, target_of}
+use Rattle.uni_meaning.specs.Lineages.{IsLineage, Shown, lineages}
 use Rattle.uni_meaning.specs.Policy.{authorised}
 use Rattle.uni_meaning.specs.Prefixes.{prefix_keys}
 use Rattle.uni_meaning.specs.Replies.{reply_of}
+use Rattle.uni_meaning.specs.SpelledOut.{IsSpelledOut, spelled_out, terms_of}
 use Rattle.uni_meaning.specs.declared.reply.Hit.{Hit}
 
 -- the first list of which every edge passes a test
@@ -31,6 +31,13 @@ first_whole test lists = first_given (λ edges. if list_all test edges then Some
 -- is one
 pub record FirstIsFirst : Type 0 where
   pub first : (schema : Declarations) (table : Contents) (viewer : ℕ) (plan : Plan) (x : DocKey) → first_shown schema table viewer plan x ≡ first_whole (authorised schema table viewer) (lineages schema table plan x)
+
+-- something is shown of a hit exactly where some one lineage of it has authorised edges alone, which is said of
+-- hits alone
+pub record FirstIsShown : Type 0 where
+  pub exact : (schema : Declarations) (table : Contents) (viewer : ℕ) (plan : Plan) (x : DocKey) → is_hit schema table plan x ≡ true
+      → ((edges : List EdgeRef) × (first_shown schema table viewer plan x ≡ Some edges)) ↔ Shown schema table viewer plan x
+  pub of_hits : (schema : Declarations) (table : Contents) (viewer : ℕ) (plan : Plan) (x : DocKey) → Shown schema table viewer plan x → is_hit schema table plan x ≡ true
 
 -- the list of lineages has exactly the lineages
 pub record LineagesAreExact : Type 0 where
@@ -102,11 +109,6 @@ is_light (Weight n d) = false
 pub record LightWalk (K : Type 0) : Type 0 where
   pub light : (operands : List (Walker K)) (kept : ℕ) (xs : List K) → list_all (λ o. is_light o.quota) operands ≡ true → weak_walk kept operands xs ≡ count_walk (map counted operands) xs
 
--- the terms of words, as the operands of an operator
-abbrev pub terms_of : ℕ → List (List ℕ) → Plans
-terms_of number [] = no_plans
-terms_of number (word ∷ words) = with_plan (term_plan number (Word word)) Plain (terms_of number words)
-
 -- a prefix term is the `or` of the terms of its keys: without a key it finds nothing, with some it finds the
 -- same entities, and each entity of the vertical by the same lineages in the same order
 pub record PrefixIsOr : Type 0 where
@@ -115,3 +117,20 @@ pub record PrefixIsOr : Type 0 where
       → hits schema table (prefix_plan number from) shard ≡ hits schema table (list_plan Or (terms_of number (first ∷ others))) shard
   pub by_lineages : (schema : Declarations) (table : Contents) (number : ℕ) (from : List ℕ) (x : DocKey) → Contains (ranked schema table (target_of schema number) (shard_of schema (target_of schema number) x.id)) x
       → lineages schema table (prefix_plan number from) x ≡ lineages schema table (list_plan Or (terms_of number (prefix_keys table number from))) x
+
+-- A plan with its prefix terms spelled out, at any depth: no prefix term with a key is left in it, it is of each
+-- vertical that the plan is of, and it means the same. It finds the same entities in every shard and has the
+-- same cut at every limit; each hit has the same lineages in the same order, and what a viewer is shown of it is
+-- the same; and so are the replies. Of an entity that is no hit the two may show different lists: a prefix term
+-- asks for its edges alone, an `or` for operands that have the entity
+pub record PrefixesSpelledOut : Type 0 where
+  pub spelled : (table : Contents) (plan : Plan) → IsSpelledOut table (spelled_out table plan)
+  pub typed : (schema : Declarations) (table : Contents) (plan : Plan) (vertical : ℕ) → IsOf schema plan vertical → IsOf schema (spelled_out table plan) vertical
+  pub found : (schema : Declarations) (table : Contents) (plan : Plan) (shard : ℕ) → hits schema table (spelled_out table plan) shard ≡ hits schema table plan shard
+  pub cuts : (schema : Declarations) (table : Contents) (plan : Plan) (limit : ℕ) → cut schema table (spelled_out table plan) limit ≡ cut schema table plan limit
+  pub by_lineages : (schema : Declarations) (table : Contents) (plan : Plan) (x : DocKey) → is_hit schema table plan x ≡ true
+      → lineages schema table (spelled_out table plan) x ≡ lineages schema table plan x
+  pub shown : (schema : Declarations) (table : Contents) (viewer : ℕ) (plan : Plan) (x : DocKey) → is_hit schema table plan x ≡ true
+      → first_shown schema table viewer (spelled_out table plan) x ≡ first_shown schema table viewer plan x
+  pub replies : (schema : Declarations) (table : Contents) (publishes : ℕ) (plan : Plan) (viewer limit : ℕ)
+      → reply_of schema table publishes (spelled_out table plan) viewer limit ≡ reply_of schema table publishes plan viewer limit

@@ -6,6 +6,7 @@ pub mod Lineages
 pub mod Policy
 pub mod Prefixes
 pub mod Replies
+pub mod SpelledOut
 pub mod Standings
 pub mod Walking
 pub mod Viewed

@@ -16,7 +16,8 @@ use Rattle.uni_meaning.specs.Prefixes.{prefix_keys}
 -- the edge of one of its keys; of `or` and `strong-or`, a lineage under one operand that has the entity; of
 -- `and`, one under each operand, joined; of `weak-and`, one under each operand that has it, joined; of
 -- `difference`, one under the first operand; of a join, the edge from an entity of the cut and then a
--- lineage of that one
+-- lineage of that one. It is said of hits alone: of what is none, `weak-and` would have the empty list where no
+-- operand has the entity
 abbrev mutual
   pub IsLineage : Declarations → Contents → Plan → DocKey → List EdgeRef → Type 0
   IsLineage schema table (term_plan number key) x edges = (leads_to table number key x ≡ true) × (edges ≡ edge_to number key x.id ∷ [])
@@ -88,6 +89,7 @@ abbrev mutual
   under_first schema table no_plans x = []
   under_first schema table (with_plan plan mark others) x = lineages schema table plan x
 
--- Shown: some one lineage of a hit has authorised edges alone
+-- Shown: an entity is a hit, and some one lineage of it has authorised edges alone
 abbrev pub Shown : Declarations → Contents → ℕ → Plan → DocKey → Type 0
-Shown schema table viewer plan x = (edges : List EdgeRef) × IsLineage schema table plan x edges × (list_all (authorised schema table viewer) edges ≡ true)
+Shown schema table viewer plan x =
+    (is_hit schema table plan x ≡ true) × (edges : List EdgeRef) × IsLineage schema table plan x edges × (list_all (authorised schema table viewer) edges ≡ true)

@@ -1,12 +1,18 @@
 //! Laws about the definitions, each the contract of a function that does nothing.
 ghost use Rattle.uni_base.specs.declared.entity.DocKey.{DocKey};
-ghost use Rattle.uni_meaning.specs.Laws.{FirstIsFirst, HitsHaveLineages, LightWalk, LineagesAreExact, LineagesStand, PrefixIsOr, RepliesBegin, ShardsMakeNoDifference};
+ghost use Rattle.uni_meaning.specs.Laws.{FirstIsFirst, FirstIsShown, HitsHaveLineages, LightWalk, LineagesAreExact, LineagesStand, PrefixIsOr, PrefixesSpelledOut, RepliesBegin, ShardsMakeNoDifference};
 
 /// What is shown is the first lineage whose edges are all authorised; so something is shown exactly where
 /// there is one.
 #[tactic(auto, using(crate::proofs::Firsts::first_is_first))]
 pub fn first_is_first()
     ensures { FirstIsFirst }
+{}
+
+/// Something is shown of a hit exactly where some one lineage of it has authorised edges alone.
+#[tactic(auto, using(crate::proofs::FirstIsShown::first_is_shown))]
+pub fn first_is_shown()
+    ensures { FirstIsShown }
 {}
 
 /// The list of lineages has exactly the lineages.
@@ -43,6 +49,13 @@ pub fn replies_begin()
 #[tactic(auto, using(crate::proofs::Prefixed::prefix_is_or))]
 pub fn prefix_is_or()
     ensures { PrefixIsOr }
+{}
+
+/// A query means the same with its prefix terms spelled out, each as the `or` of the terms of its keys, at any
+/// depth.
+#[tactic(auto, using(crate::proofs::SpelledOut::prefixes_spelled_out))]
+pub fn prefixes_spelled_out()
+    ensures { PrefixesSpelledOut }
 {}
 
 /// For operands without a weight `weak-and` goes by counts alone, whatever was kept before.
