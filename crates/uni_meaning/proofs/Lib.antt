@@ -11,6 +11,7 @@ pub mod Light
 mod ListStandings
 pub mod Members
 pub mod PlaceStandings
+pub mod PrefixOrder
 mod PrefixStandings
 pub mod Prefixed
 mod Arrivals

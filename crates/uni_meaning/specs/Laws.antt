@@ -1,6 +1,9 @@
 -- What follows from the definitions.
 use Rattle.std.specs.Prelude.{ℕ, ◌≡◌, ◌↔◌, ◌++◌, ◌+◌, ◌-◌, nat_lt, Bool, true, false, ◌&&◌, ◌||◌, if◌then◌else◌, List, [], ◌∷◌, Option, None, Some, map}
+use Rattle.std.specs.Cmp.Lexicographic.{slice_cmp}
 use Rattle.std.specs.List.{Contains, list_all, list_any}
+use Rattle.std.specs.List.Sorted.{IsStrictlySortedBy}
+use Rattle.std.specs.Ordering.{nat_cmp}
 use Rattle.uni_base.specs.Walks.{Quota, Unmarked, Count, Weight, Walker, weak_walk}
 use Rattle.uni_base.specs.declared.edge.EdgeRef.{EdgeRef}
 use Rattle.uni_base.specs.declared.entity.DocKey.{DocKey}
@@ -117,6 +120,11 @@ pub record PrefixIsOr : Type 0 where
       → hits schema table (prefix_plan number from) shard ≡ hits schema table (list_plan Or (terms_of number (first ∷ others))) shard
   pub by_lineages : (schema : Declarations) (table : Contents) (number : ℕ) (from : List ℕ) (x : DocKey) → Contains (ranked schema table (target_of schema number) (shard_of schema (target_of schema number) x.id)) x
       → lineages schema table (prefix_plan number from) x ≡ lineages schema table (list_plan Or (terms_of number (prefix_keys table number from))) x
+
+-- the keys of a prefix in a table that keeps what tables keep rise strictly by their bytes, so each is there once
+pub record PrefixKeysRise : Type 0 where
+  pub rise : (schema : Declarations) (limits : Limits) (table : Contents) → IsKept schema limits table → (number : ℕ) (from : List ℕ)
+      → IsStrictlySortedBy (slice_cmp nat_cmp) (prefix_keys table number from)
 
 -- A plan with its prefix terms spelled out, at any depth: no prefix term with a key is left in it, it is of each
 -- vertical that the plan is of, and it means the same. It finds the same entities in every shard and has the

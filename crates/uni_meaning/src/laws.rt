@@ -1,6 +1,6 @@
 //! Laws about the definitions, each the contract of a function that does nothing.
 ghost use Rattle.uni_base.specs.declared.entity.DocKey.{DocKey};
-ghost use Rattle.uni_meaning.specs.Laws.{FirstIsFirst, FirstIsShown, HitsHaveLineages, LightWalk, LineagesAreExact, LineagesStand, PrefixIsOr, PrefixesSpelledOut, RepliesBegin, ShardsMakeNoDifference};
+ghost use Rattle.uni_meaning.specs.Laws.{FirstIsFirst, FirstIsShown, HitsHaveLineages, LightWalk, LineagesAreExact, LineagesStand, PrefixIsOr, PrefixKeysRise, PrefixesSpelledOut, RepliesBegin, ShardsMakeNoDifference};
 
 /// What is shown is the first lineage whose edges are all authorised; so something is shown exactly where
 /// there is one.
@@ -49,6 +49,12 @@ pub fn replies_begin()
 #[tactic(auto, using(crate::proofs::Prefixed::prefix_is_or))]
 pub fn prefix_is_or()
     ensures { PrefixIsOr }
+{}
+
+/// The keys of a prefix rise strictly by their bytes, in a table that keeps what tables keep.
+#[tactic(auto, using(crate::proofs::PrefixOrder::prefix_keys_rise))]
+pub fn prefix_keys_rise()
+    ensures { PrefixKeysRise }
 {}
 
 /// A query means the same with its prefix terms spelled out, each as the `or` of the terms of its keys, at any
