@@ -1,2 +1,4 @@
+pub mod FirstHits
 mod Merging
+mod RackHits
 mod Runs

@@ -154,7 +154,7 @@ each_in_none : (ks : List DocKey) (parts : List (List RawHit)) → AllByRecursio
 each_in_none [] parts none = tt
 each_in_none (k ∷ ks) parts none = (none_in_parts k parts none.0, each_in_none ks parts none.1)
 
-parts_apart : (parts : List (List RawHit)) → AllByRecursion (λ part. IsRanked (keys_of part)) parts → AreApart (map keys_of parts) → IsDistinct (eq_by_cmp doc_cmp) (flat_map keys_of parts)
+pub parts_apart : (parts : List (List RawHit)) → AllByRecursion (λ part. IsRanked (keys_of part)) parts → AreApart (map keys_of parts) → IsDistinct (eq_by_cmp doc_cmp) (flat_map keys_of parts)
 parts_apart [] ranked apart = ranked_apart [] tt
 parts_apart (part ∷ parts) ranked apart =
     apart_append (keys_of part) (flat_map keys_of parts) (ranked_apart (keys_of part) ranked.0) (parts_apart parts ranked.1 apart.1) (each_in_none (keys_of part) parts apart.0)

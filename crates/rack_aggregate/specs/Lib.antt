@@ -1,2 +1,3 @@
 pub mod Merged
+pub mod Racks
 pub mod Runs

@@ -6,7 +6,9 @@ mod merge;
 mod racks;
 #[cfg(test)]
 mod tests;
+mod verticals;
 
 pub use gate::{Gate, OpenGate, Point};
 pub use merge::merge_top;
 pub use racks::run_racks;
+pub use verticals::first_of_racks;

@@ -23,9 +23,9 @@ pub fn run_racks<R: Threads + Sync, J: Fn(u32) -> Result<HitRows, AllocError> + 
     run_among(rt, alloc, workers, 0, shards, job)
 }
 
-// The answers for a run of shards: half of them by half of the workers, the rest by the others.
+/// The answers for a run of shards: half of them by half of the workers, the rest by the others.
 #[cycle(halves)]
-fn run_among<R: Threads + Sync, J: Fn(u32) -> Result<HitRows, AllocError> + Sync>(
+pub(crate) fn run_among<R: Threads + Sync, J: Fn(u32) -> Result<HitRows, AllocError> + Sync>(
     rt: &R,
     alloc: Global,
     workers: u32,

@@ -1,12 +1,15 @@
-ghost use Rattle.std.specs.Prelude.{◌≡◌, ◌<◌, [], ◌∷◌, IfOk, map};
+ghost use Rattle.std.specs.Prelude.{◌≡◌, ◌+◌, ◌≤◌, ◌<◌, [], ◌∷◌, IfOk, map};
 ghost use Rattle.std.specs.List.{AllByRecursion};
 ghost use Rattle.uni_base.specs.Cursors.{IsRanked};
 ghost use Rattle.rack_aggregate.specs.Merged.{AreApart, keys_of};
 
-use crate::{merge_top, run_racks};
+use crate::verticals::{Merges, first_by};
+use crate::{first_of_racks, merge_top, run_racks};
 use lineage_tree::{HitRows, Lineage, RawHit};
 use std::alloc::{AllocError, Global};
+use std::sync::atomic::{AtomicU32, Ordering};
 use std::test::Fail;
+use std::thread::Threads;
 use uni_base::{DocKey, EntityId, Rank};
 
 // A hit whose tree is the entry with the number of its id.
@@ -114,6 +117,101 @@ fn each_part_is_of_its_shard(rt: HostRuntime) -> Result<(), Fail> {
                 let ids = ids_of(alloc, part)?;
                 assert_eq!(rt; ids.as_slice(), [i as u64 + 1].as_slice());
             }
+        }
+    }
+    Ok(())
+}
+
+// Merges by `merge_top`, and counts how often.
+#[derive(Drop)]
+struct Counted {
+    merges: AtomicU32,
+}
+
+impl Merges for Counted {
+    fn first_of(
+        &self,
+        alloc: Global,
+        parts: Vec<HitRows>,
+        limit: u32,
+    ) -> Result<HitRows, AllocError> {
+        self.merges.fetch_add(1, Ordering::Relaxed);
+        merge_top(alloc, parts, limit)
+    }
+}
+
+// A part with one hit, which comes before those of earlier shards.
+fn later_first(alloc: Global, shard: u32) -> Result<HitRows, AllocError>
+    requires { shard < 64 }
+    ensures { IfOk result (λ part. keys_of part ≡ record { rank = record { 0 = shard }; id = shard + 1 } ∷ []) }
+{
+    let mut part = HitRows::new(alloc);
+    part.push(hit(shard, shard + 1))?;
+    Ok(part)
+}
+
+// How often the hits of so many shards are merged.
+fn merges_of(
+    rt: &(impl Threads + Sync),
+    alloc: Global,
+    workers: u32,
+    shards: u32,
+) -> Result<u32, AllocError>
+    requires workers { 1 ≤ workers }
+    requires shards { shards ≤ 64 }
+{
+    let counted = Counted {
+        merges: AtomicU32::new(0),
+    };
+    let _ = first_by(
+        rt,
+        alloc,
+        workers,
+        shards,
+        9,
+        &|shard: u32| later_first(alloc, shard),
+        &counted,
+    )?;
+    Ok(counted.merges.load(Ordering::Relaxed))
+}
+
+// Whether the first nine hits of so many shards are those of the last shards.
+fn is_last_first(
+    rt: &(impl Threads + Sync),
+    alloc: Global,
+    workers: u32,
+    shards: u32,
+) -> Result<bool, AllocError>
+    requires workers { 1 ≤ workers }
+    requires shards { shards ≤ 64 }
+{
+    let hits = first_of_racks(
+        rt,
+        alloc,
+        workers,
+        shards,
+        9,
+        &|shard: u32| later_first(alloc, shard),
+    )?;
+    let last = (0..shards).rev().take(9);
+    Ok(hits.as_slice().iter().map(|hit| hit.key.rank.0).eq(last))
+}
+
+#[test]
+fn racks_are_merged_before_the_vertical(rt: HostRuntime) -> Result<(), Fail> {
+    let alloc = rt.alloc();
+    for workers in [1_u32, 2, 5, 64] {
+        for (shards, merges) in [
+            (0_u32, 1_u32),
+            (1, 1),
+            (8, 1),
+            (9, 3),
+            (16, 3),
+            (20, 4),
+            (64, 9),
+        ] {
+            assert_eq!(rt; merges_of(&rt, alloc, workers, shards)?, merges);
+            assert!(rt; is_last_first(&rt, alloc, workers, shards)?);
         }
     }
     Ok(())

@@ -298,7 +298,6 @@ fn plainly(alloc: Global, script: &[u8]) -> Result<MemorySink, Fail> {
 
 // Whether an output says of a line or of a stack that it found no memory. These tests have enough of it.
 fn finds_no_memory(output: &[u8]) -> bool {
-    output
-        .split(|byte| *byte == b'\n')
-        .any(|line| line.starts_with(b"memory ") || line.starts_with(b"untidied "))
+    output.split(|byte| *byte == b'\n').any(|line| line.starts_with(b"memory ")
+        || line.starts_with(b"untidied "))
 }

@@ -49,14 +49,14 @@ is_opened limits bytes schema rounds e = by (opening_of limits.line (lines_of by
 module _ (tell : AnswersTell) (by_text : OpensByText) (is_schema : OpenedIsSchema) where
   one_record : (limits : Limits) → IsWithinStandard limits → (bytes : List ℕ) → length bytes ≤ limits.script → (schema : Declarations) (rounds : List (List Entry))
       → IsOpened limits bytes schema rounds → (text : List ℕ) (one other : Serves (under limits schema) rounds text) → one.told ≡ other.told
-  one_record limits within bytes short schema rounds open text one other =
-      let placed : IsOpening limits.line (lines_of bytes) (opens schema open.number open.rest) =
-      subst (IsOpening limits.line (lines_of bytes)) open.opening (by_text.is limits.line (lines_of bytes)) in
+  one_record limits within bytes short schema rounds found text one other =
+      let placed : IsOpening limits.line (lines_of bytes) (opens schema found.number found.rest) =
+      subst (IsOpening limits.line (lines_of bytes)) found.opening (by_text.is limits.line (lines_of bytes)) in
       let header : List (List ℕ) = placed.0 in
-      let count : length (lines_of bytes) ≡ length header + length open.rest = ap length placed.1 ∙ length-append header open.rest in
-      let few : length header + length open.rest ≤ 2 ^ 63 = omega (arith, few_lines bytes, within.script, short, count) in
-      tell.texts (under limits schema) (is_schema.is limits.line (lines_of bytes) schema open.number open.rest open.opening) within rounds (length header) open.rest
-      (open.rounds_of ∙ ap (λ n. rounds_from (under limits schema) n 0 open.rest) placed.2) few
+      let count : length (lines_of bytes) ≡ length header + length found.rest = ap length placed.1 ∙ length-append header found.rest in
+      let few : length header + length found.rest ≤ 2 ^ 63 = omega (arith, few_lines bytes, within.script, short, count) in
+      tell.texts (under limits schema) (is_schema.is limits.line (lines_of bytes) schema found.number found.rest found.opening) within rounds (length header) found.rest
+      (found.rounds_of ∙ ap (λ n. rounds_from (under limits schema) n 0 found.rest) placed.2) few
       one.told other.told one.is_record other.is_record one.legal (sym one.writes ∙ other.writes)
 
   pub one_record_serves : OneRecordServes

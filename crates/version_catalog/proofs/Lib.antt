@@ -3,7 +3,6 @@ pub mod ExampleRuns
 pub mod Histories
 pub mod Feeds
 pub mod Folds
-pub mod Found
 pub mod Paired
 pub mod Shares
 pub mod Growth

@@ -1,10 +1,9 @@
 //! One layer for each of several shards, merged at once.
-ghost use Rattle.std.specs.Prelude.{◌≡◌, ◌+◌, ◌/◌, ◌≤◌, IfOk, OnOk, length, true};
-ghost use Rattle.std.specs.List.{All, list_any};
+ghost use Rattle.std.specs.Prelude.{◌≡◌, ◌+◌, ◌≤◌, IfOk, OnOk, length};
+ghost use Rattle.std.specs.List.{All};
 ghost use Rattle.std.specs.Thread.{IsSync};
 ghost use Rattle.uni_schema.specs.Schema.{Declarations};
-ghost use Rattle.version_catalog.specs.Bases.{FindBases, FindFirsts, IsStackId, IsWhole, are_of_one_shard, is_of_shard};
-ghost use Rattle.version_catalog.specs.declared.stack_id.StackId.{StackId as StackIds};
+ghost use Rattle.version_catalog.specs.Bases.{IsStackId, IsWhole, is_of_shard};
 
 use crate::StackId;
 use crate::whole::whole;
@@ -47,8 +46,7 @@ pub(crate) fn shard_bases<R: Threads + Sync>(
     requires workers { 1 ≤ workers }
     requires within { to ≤ length stacks.now }
     requires stacks { All (IsStackId version.now.schema) stacks.now }
-    ensures whole { IfOk result (λ bases. All (IsWhole version.now) bases.items) }
-    ensures found { IfOk result (λ bases. FindBases stacks.now from to bases.items) }
+    ensures { IfOk result (λ bases. All (IsWhole version.now) bases.items) }
 {
     let firsts = first_of_shards(alloc, stacks, from, to)?;
     bases_among(rt, alloc, version, &firsts, 0, firsts.len(), workers)
@@ -62,8 +60,7 @@ fn first_of_shards(
     to: usize,
 ) -> Result<Vec<StackId>, AllocError>
     requires { to ≤ length stacks.now }
-    ensures stacks { IfOk result (λ firsts. (schema : Declarations) → All (IsStackId schema) stacks.now → All (IsStackId schema) firsts.items) }
-    ensures found { IfOk result (λ firsts. FindFirsts stacks.now from to firsts.items) }
+    ensures { IfOk result (λ firsts. (schema : Declarations) → All (IsStackId schema) stacks.now → All (IsStackId schema) firsts.items) }
 {
     let mut firsts = Vec::new(alloc);
     for at in from..to {
@@ -74,9 +71,7 @@ fn first_of_shards(
 
 // Adds a stack, unless the last one is of its shard.
 fn add_first(firsts: &mut Vec<StackId>, stack: StackId) -> Result<(), AllocError>
-    ensures stacks { OnOk result ((schema : Declarations) → IsStackId schema stack → All (IsStackId schema) firsts.old.items → All (IsStackId schema) firsts.new.items) }
-    ensures found { OnOk result (list_any (are_of_one_shard stack) firsts.new.items ≡ true) }
-    ensures others { OnOk result ((id : StackIds) → list_any (are_of_one_shard id) firsts.old.items ≡ true → list_any (are_of_one_shard id) firsts.new.items ≡ true) }
+    ensures { OnOk result ((schema : Declarations) → IsStackId schema stack → All (IsStackId schema) firsts.old.items → All (IsStackId schema) firsts.new.items) }
 {
     let count = firsts.len();
     if count > 0 && is_same_shard(&firsts[count - 1], &stack) {
@@ -87,9 +82,7 @@ fn add_first(firsts: &mut Vec<StackId>, stack: StackId) -> Result<(), AllocError
 }
 
 // Whether two stacks are of one shard.
-pub(crate) fn is_same_shard(one: &StackId, other: &StackId) -> bool
-    ensures { result ≡ are_of_one_shard one.now other.now }
-{
+pub(crate) fn is_same_shard(one: &StackId, other: &StackId) -> bool {
     one.vertical == other.vertical && one.shard == other.shard
 }
 
@@ -107,8 +100,7 @@ fn bases_among<R: Threads + Sync>(
     requires workers { 1 ≤ workers }
     requires within { from + count ≤ length shards.now }
     requires stacks { All (IsStackId version.now.schema) shards.now }
-    ensures whole { IfOk result (λ bases. All (IsWhole version.now) bases.items) }
-    ensures found { IfOk result (λ bases. FindBases shards.now from (from + count) bases.items) }
+    ensures { IfOk result (λ bases. All (IsWhole version.now) bases.items) }
 {
     if workers == 1 || count <= 1 {
         return bases_in_turn(alloc, version, shards, from, count);
@@ -136,9 +128,7 @@ fn bases_both<R: Threads + Sync>(
     requires within { from + count ≤ length shards.now }
     requires stacks { All (IsStackId version.now.schema) shards.now }
     ensures front { IfOk result.0 (λ bases. All (IsWhole version.now) bases.items) }
-    ensures front_found { IfOk result.0 (λ bases. FindBases shards.now from (from + count / 2) bases.items) }
     ensures back { IfOk result.1 (λ bases. All (IsWhole version.now) bases.items) }
-    ensures back_found { IfOk result.1 (λ bases. FindBases shards.now (from + count / 2) (from + count) bases.items) }
 {
     let low = count / 2;
     let high = count - low;
@@ -152,16 +142,14 @@ fn bases_both<R: Threads + Sync>(
             requires workers { 1 ≤ few }
             requires within { from + low ≤ length shards.now }
             requires stacks { All (IsStackId version.now.schema) shards.now }
-            ensures whole { IfOk result (λ bases. All (IsWhole version.entry.now) bases.items) }
-            ensures found { IfOk result (λ bases. FindBases shards.entry.now from (from + low) bases.items) }
+            ensures { IfOk result (λ bases. All (IsWhole version.entry.now) bases.items) }
         { bases_among(rt, alloc, version, shards, from, low, few) },
         || -> Bases
             requires sync { IsSync R.row }
             requires workers { 1 ≤ others }
             requires within { middle + high ≤ length shards.now }
             requires stacks { All (IsStackId version.now.schema) shards.now }
-            ensures whole { IfOk result (λ bases. All (IsWhole version.entry.now) bases.items) }
-            ensures found { IfOk result (λ bases. FindBases shards.entry.now middle (middle + high) bases.items) }
+            ensures { IfOk result (λ bases. All (IsWhole version.entry.now) bases.items) }
         { bases_among(rt, alloc, version, shards, middle, high, others) },
     )
 }
@@ -176,8 +164,7 @@ fn bases_in_turn(
 ) -> Bases
     requires within { from + count ≤ length shards.now }
     requires stacks { All (IsStackId version.now.schema) shards.now }
-    ensures whole { IfOk result (λ bases. All (IsWhole version.now) bases.items) }
-    ensures found { IfOk result (λ bases. FindBases shards.now from (from + count) bases.items) }
+    ensures { IfOk result (λ bases. All (IsWhole version.now) bases.items) }
 {
     let mut bases = Vec::new(alloc);
     for at in from..from + count {
@@ -189,8 +176,7 @@ fn bases_in_turn(
 // The layer of the shard of a stack.
 fn base_of(alloc: Global, version: &Version, stack: StackId) -> ShardBase
     requires { IsStackId version.now.schema stack }
-    ensures whole { IsWhole version.now result }
-    ensures of { is_of_shard stack result ≡ true }
+    ensures { IsWhole version.now result }
 {
     let StackId {
         vertical,

@@ -156,7 +156,14 @@ const TIDIED: &[u8] = b"\
 
 #[test]
 fn replicas_are_tidied_one_by_one(rt: HostRuntime) -> Result<(), Fail> {
-    is_answered(&rt, rt.alloc(), Limits::standard(), &[REPLICAS], &[TIDIED], 0)
+    is_answered(
+        &rt,
+        rt.alloc(),
+        Limits::standard(),
+        &[REPLICAS],
+        &[TIDIED],
+        0,
+    )
 }
 
 #[test]
