@@ -1,12 +1,10 @@
 -- Lines of answers hold no LF, where no word in them does.
-use Rattle.std.proofs.Common.{◌≡◌, ℕ, ◌==◌, ◌||◌, Bool, true, false, List, [], ◌∷◌, ◌++◌, map, codes, flat_map, refl, ap, sym, ◌∙◌, arith}
+use Rattle.std.proofs.Common.{◌≡◌, ◌==◌, Bool, false, List, [], ◌∷◌, ◌++◌, map, codes, flat_map, refl, sym, ◌∙◌}
 use Rattle.std.proofs.lemmas.Bool.{or_parts}
-use Rattle.std.proofs.lemmas.Bool.Decides.{nat_tests}
 use Rattle.std.proofs.lemmas.List.Folds.{list_any-append}
 use Rattle.std.specs.Fmt.{decimal}
 use Rattle.std.specs.List.{list_any}
 use Rattle.uni_base.specs.Fields.{spaced}
-use Rattle.uni_base.specs.Words.{is_digit}
 use Rattle.uni_base.specs.declared.edge.EdgeRef.{EdgeRef}
 use Rattle.uni_base.specs.declared.edge.Key.{Key}
 use Rattle.uni_base.specs.declared.edge.Key.TheVariants.{Id, Word}
@@ -46,7 +44,7 @@ module _ (schema : Declarations) (is : IsSchema schema) where
   unbroken-hit hit none =
       none_joined (λ b. b == 10) (spaced (first_words.hit ∷ decimal hit.key.id ∷ codes "via" ∷ [])) (edges_text schema hit.lineage)
       (unbroken-spaced (first_words.hit ∷ decimal hit.key.id ∷ codes "via" ∷ []) (rw (unbroken-decimal hit.key.id) refl))
-      (all_none_joined (λ b. b == 10) has_lf (λ edge. codes " " ++ edge_text schema edge) (λ (edge : EdgeRef). word_of edge.key) unbroken-edge hit.lineage none)
+      (all_joined (λ b. b == 10) has_lf (λ edge. codes " " ++ edge_text schema edge) (λ (edge : EdgeRef). word_of edge.key) unbroken-edge hit.lineage none)
 
   unbroken-hits : (hits : List Hit) → AreUnbroken (flat_map words_of_hit hits) → AreUnbroken (map (hit_line schema) hits)
   unbroken-hits [] none = refl
