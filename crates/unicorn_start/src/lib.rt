@@ -1,12 +1,8 @@
 //! How the program starts: its words, its streams, and the number that it ends with.
 #![tactic(auto)]
 
-ghost use Rattle.std.specs.Prelude.{◌≡◌, [], IfOk, IfErr, IsErr, ◌↔◌, map};
+ghost use Rattle.std.specs.Prelude.{◌≡◌, [], IfOk, IfErr, IsErr, ◌↔◌};
 ghost use Rattle.std.specs.IoError.{error_kind};
-ghost use Rattle.std.specs.Process.{exit_status};
-ghost use Rattle.std.specs.String.{string_bytes};
-ghost use Rattle.unicorn_round.specs.Statuses.{number_of_status};
-ghost use Rattle.unicorn_start.specs.Ends.{EndsOver};
 
 use std::alloc::Global;
 use std::env::Env;
@@ -15,7 +11,7 @@ use std::process::ExitCode;
 use std::sync::Wait;
 use std::thread::Threads;
 use std::{env, io};
-use uni_base::{Sink, Source, StdSink, StdSource};
+use uni_base::{StdSink, StdSource};
 use unicorn_round::{OpenGate, Status, TurnChooser, run};
 
 /// Runs the program over its words, with a script from `input` and its answers to `output`, and says
@@ -26,42 +22,13 @@ where
     I: Read + Drop,
     O: Write + Drop,
 {
-    end_of(
-        rt,
-        read_words(rt),
-        &mut StdSource::new(input),
-        &mut StdSink::new(output),
-    )
-}
-
-/// Runs the program over words as they were read, and says with what it ends: with the number of the
-/// run's status. Words that are no text are none that the program takes, so they are read as no words
-/// at all. Where memory for them ran out, nothing is run.
-pub fn end_of<R, S, K>(
-    rt: &R,
-    read: io::Result<Vec<String>>,
-    source: &mut S,
-    sink: &mut K,
-) -> ExitCode
-where
-    R: AllocGlobal + Threads + Wait + Sync,
-    S: Source,
-    K: Sink,
-    ensures given { IfOk read (λ words. EndsOver (map string_bytes words.items)
-        (record { left = S.left source.old; taken = K.taken sink.old; reads = S.faults source.old; writes = K.faults sink.old })
-        (record { left = S.left source.new; taken = K.taken sink.new; reads = S.faults source.new; writes = K.faults sink.new }) result) }
-    ensures no_text { IfErr read (λ error. (error_kind error ≡ ErrorKind.OutOfMemory → ⊥) → EndsOver []
-        (record { left = S.left source.old; taken = K.taken sink.old; reads = S.faults source.old; writes = K.faults sink.old })
-        (record { left = S.left source.new; taken = K.taken sink.new; reads = S.faults source.new; writes = K.faults sink.new }) result) }
-    ensures no_memory { IfErr read (λ error. error_kind error ≡ ErrorKind.OutOfMemory → exit_status result ≡ number_of_status Status.Memory) }
-{
-    let status = match words_given(rt.alloc(), read) {
+    let status = match words_given(rt.alloc(), read_words(rt)) {
         Ok(words) => run(
             rt,
             rt.alloc(),
             words.as_slice(),
-            source,
-            sink,
+            &mut StdSource::new(input),
+            &mut StdSink::new(output),
             &TurnChooser,
             &OpenGate,
         ),
